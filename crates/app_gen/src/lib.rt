@@ -6,9 +6,8 @@
 //! `specs/Source`) and the arrivals (`specs/Load`). Arrivals in range: `sloth_base` (`Arrivals`).
 #![tactic(auto)]
 
-pub mod load;
-mod oil;
+pub mod oil;
 pub mod source;
 
-pub use load::Sample;
+pub use oil::Sample;
 pub use source::sample;

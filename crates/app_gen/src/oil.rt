@@ -1,16 +1,16 @@
-//! The OIL text.
-ghost use Rattle.std.specs.Prelude.{◌≡◌, ◌++◌, ◌<◌, ◌^◌, ◌-◌, OnOk, IfOk};
+//! The OIL text. The arrivals. What is generated.
+ghost use Rattle.std.specs.Prelude.{◌≡◌, ◌++◌, ◌<◌, ◌^◌, ◌-◌, OnOk, IfOk, ◌≤◌, ◌+◌, ◌%◌};
 ghost use Rattle.std.specs.List.{flat_map, range_with_len};
-ghost use Rattle.app_gen.specs.Oil.{event_object, resource_object, schedule_of, autostart_of};
-ghost use Rattle.app_gen.specs.Oil.{event_attribute, task_object, oil_text};
+ghost use Rattle.app_gen.specs.Oil.{event_object, resource_object, schedule_of, autostart_of, event_attribute, task_object, oil_text};
+ghost use Rattle.sloth_base.specs.Limits.{task_limit};
+ghost use Rattle.app_gen.specs.Load.{high_bits, first_arrivals};
 
-use crate::source::has_event;
-use sloth_base::Result;
+use crate::source::{Draws, has_event};
+use sloth_base::{Arrival, Line, List, Result};
 use std::alloc::Global;
-use text_pieces::line;
 use text_pieces::pieces::Piece::{Number, Word};
+use text_pieces::{line, push};
 
-// Appends the event of a task that has one.
 #[tactic(auto, unfolding(crate::specs::Oil::event_object, crate::specs::Pieces::number_behind))]
 fn put_event(text: &mut Vec<u8>, task: u32) -> Result<()>
     ensures { OnOk result (text.new.items ≡ text.old.items ++ event_object task) }
@@ -21,7 +21,6 @@ fn put_event(text: &mut Vec<u8>, task: u32) -> Result<()>
     line!(text; Word(b"EVENT E"), Number(task), Word(b" { MASK = AUTO; };\n"))
 }
 
-// Appends the events of the tasks.
 fn put_events(text: &mut Vec<u8>, tasks: u32) -> Result<()>
     ensures { OnOk result (text.new.items ≡ text.old.items ++ flat_map event_object (range_with_len 0 tasks)) }
 {
@@ -38,7 +37,6 @@ fn put_resource(text: &mut Vec<u8>, resource: u32) -> Result<()>
     line!(text; Word(b"RESOURCE R"), Number(resource), Word(b" { RESOURCEPROPERTY = STANDARD; };\n"))
 }
 
-// The value of SCHEDULE of a task.
 #[tactic(auto, unfolding(crate::specs::Oil::schedule_of))]
 fn schedule_word(task: u32) -> &'static [u8]
     ensures { result.now ≡ schedule_of task }
@@ -46,7 +44,6 @@ fn schedule_word(task: u32) -> &'static [u8]
     if task % 7 == 3 { b"NON" } else { b"FULL" }
 }
 
-// The value of AUTOSTART of a task.
 #[tactic(auto, unfolding(crate::specs::Oil::autostart_of))]
 fn autostart_value(task: u32) -> &'static [u8]
     ensures { result.now ≡ autostart_of task }
@@ -58,7 +55,6 @@ fn autostart_value(task: u32) -> &'static [u8]
     }
 }
 
-// Appends the attribute EVENT of a task that has one.
 #[tactic(auto, unfolding(crate::specs::Oil::event_attribute, crate::specs::Pieces::number_behind))]
 fn put_event_attribute(text: &mut Vec<u8>, task: u32) -> Result<()>
     ensures { OnOk result (text.new.items ≡ text.old.items ++ event_attribute task) }
@@ -81,7 +77,6 @@ fn put_task(text: &mut Vec<u8>, task: u32) -> Result<()>
     line!(text; Word(b" };\n"))
 }
 
-// Appends the tasks.
 fn put_tasks(text: &mut Vec<u8>, tasks: u32) -> Result<()>
     ensures { OnOk result (text.new.items ≡ text.old.items ++ flat_map task_object (range_with_len 0 tasks)) }
 {
@@ -106,4 +101,50 @@ pub fn oil_text(alloc: Global, tasks: u32) -> Result<Vec<u8>>
     put_tasks(&mut text, tasks)?;
     text.extend_from_slice(b"};\n")?;
     Ok(text)
+}
+
+/// The number of arrivals.
+const ARRIVALS: usize = 1_000;
+
+/// The moment that the first gap begins at.
+const START: u32 = 1_000;
+
+/// The greatest gap between two arrivals.
+const LONGEST_GAP: u32 = 900;
+
+fn gap(draw: u32) -> u32
+    ensures is { result ≡ 1 + high_bits draw % 900 }
+    ensures short { result ≤ 900 }
+{
+    1 + (draw >> 16) % LONGEST_GAP
+}
+
+fn line(draw: u32, tasks: u32) -> Line
+    requires { (1 ≤ tasks) × (tasks ≤ task_limit) }
+    ensures { result ≡ high_bits draw % tasks }
+{
+    Line(((draw >> 16) % tasks) as u8)
+}
+
+/// The arrivals of an application of so many tasks, with two draws for each.
+pub fn arrivals(alloc: Global, tasks: u32, draws: &mut Draws) -> Result<Vec<Arrival>>
+    requires { (1 ≤ tasks) × (tasks ≤ task_limit) }
+    ensures { IfOk result (λ arrivals. arrivals.items ≡ first_arrivals draws.old tasks 1000) }
+{
+    let mut arrivals = Vec::new(alloc);
+    let mut at = START;
+    for _number in 0..ARRIVALS {
+        at += gap(draws.next());
+        let line = line(draws.next(), tasks);
+        push(&mut arrivals, Arrival { at, line })?;
+    }
+    Ok(arrivals)
+}
+
+/// A generated application: its texts, and the arrivals of a run.
+#[derive(Drop)]
+pub struct Sample {
+    pub oil: List<u8>,
+    pub src: List<u8>,
+    pub arrivals: List<Arrival>,
 }

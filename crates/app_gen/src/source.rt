@@ -10,15 +10,13 @@ ghost use Rattle.app_gen.specs.Oil.{oil_text};
 ghost use Rattle.app_gen.specs.Load.{arrivals, owners_of};
 
 use crate::Sample;
-use crate::load::arrivals;
-use crate::oil::oil_text;
+use crate::oil::{arrivals, oil_text};
 use sloth_base::{List, Result};
 use std::alloc::Global;
 use std::marker::Model;
 use text_pieces::line;
 use text_pieces::pieces::Piece::{Number, Word};
 
-// Appends the setting of the event of a task that has one.
 #[tactic(auto, unfolding(crate::specs::Source::setting_text, crate::specs::Pieces::number_behind))]
 fn put_sets(text: &mut Vec<u8>, task: u32) -> Result<()>
     ensures { OnOk result (text.new.items ≡ text.old.items ++ setting_text task) }
@@ -29,7 +27,6 @@ fn put_sets(text: &mut Vec<u8>, task: u32) -> Result<()>
     line!(text; Word(b"SetEvent T"), Number(task), Word(b", E"), Number(task), Word(b"\n"))
 }
 
-// Appends what the first task does with another.
 #[tactic(auto, unfolding(crate::specs::Source::waking_text, crate::specs::Pieces::number_behind))]
 fn put_wake(text: &mut Vec<u8>, task: u32) -> Result<()>
     ensures { OnOk result (text.new.items ≡ text.old.items ++ waking_text task) }
@@ -38,7 +35,6 @@ fn put_wake(text: &mut Vec<u8>, task: u32) -> Result<()>
     put_sets(text, task)
 }
 
-// Appends the same for all others.
 fn put_wakes(text: &mut Vec<u8>, tasks: u32) -> Result<()>
     requires { 1 ≤ tasks }
     ensures { OnOk result (text.new.items ≡ text.old.items ++ flat_map waking_text (range_with_len 1 (tasks - 1))) }
@@ -49,7 +45,6 @@ fn put_wakes(text: &mut Vec<u8>, tasks: u32) -> Result<()>
     Ok(())
 }
 
-// Appends the body of the first task.
 fn put_first_body(text: &mut Vec<u8>, tasks: u32) -> Result<()>
     requires { 1 ≤ tasks }
     ensures { OnOk result (text.new.items ≡ text.old.items ++ first_body tasks) }
@@ -60,7 +55,6 @@ fn put_first_body(text: &mut Vec<u8>, tasks: u32) -> Result<()>
     Ok(())
 }
 
-// Appends the waiting of a task that has an event.
 #[tactic(auto, unfolding(crate::specs::Source::waiting_text, crate::specs::Pieces::number_behind))]
 fn put_waits(text: &mut Vec<u8>, task: u32) -> Result<()>
     ensures { OnOk result (text.new.items ≡ text.old.items ++ waiting_text task) }
@@ -71,7 +65,6 @@ fn put_waits(text: &mut Vec<u8>, task: u32) -> Result<()>
     line!(text; Word(b"WaitEvent E"), Number(task), Word(b"\nClearEvent E"), Number(task), Word(b"\n"))
 }
 
-// Appends how a body begins.
 #[tactic(auto, unfolding(crate::specs::Source::body_head, crate::specs::Pieces::number_behind))]
 fn put_begins(text: &mut Vec<u8>, task: u32, number: u32) -> Result<()>
     ensures { OnOk result (text.new.items ≡ text.old.items ++ body_head task number) }
@@ -79,7 +72,6 @@ fn put_begins(text: &mut Vec<u8>, task: u32, number: u32) -> Result<()>
     line!(text; Word(b"task T"), Number(task), Word(b", 2\nli t0, "), Number(number), Word(b"\nsw t0, frame[1]\n"))
 }
 
-// Appends the work of a body.
 #[tactic(auto, unfolding(crate::specs::Source::adding_text, crate::specs::Pieces::number_behind))]
 fn put_adds(text: &mut Vec<u8>, task: u32) -> Result<()>
     requires { task < 2 ^ 30 }
@@ -90,7 +82,6 @@ fn put_adds(text: &mut Vec<u8>, task: u32) -> Result<()>
         Word(b"\nReleaseResource R"), Number(task % 4), Word(b"\n"))
 }
 
-// Appends the body of a task.
 fn put_body(text: &mut Vec<u8>, task: u32, number: u32) -> Result<()>
     requires { task < 2 ^ 30 }
     ensures { OnOk result (text.new.items ≡ text.old.items ++ numbered_body task number) }

@@ -1,6 +1,6 @@
 //! The statements of task source: how many operands they have, and of which forms.
 ghost use Rattle.std.specs.Prelude.{◌≡◌};
-ghost use Rattle.asm_lines.specs.Forms.{object_operands, service_takes, is_operand_count, form_of, is_outer};
+ghost use Rattle.asm_lines.specs.Forms.{is_operand_count, form_of, is_outer};
 ghost use Rattle.asm_lines.specs.Forms.{is_body_start, is_body_end};
 
 use sloth_base::{AluKind, BranchKind, ImmKind, OPERAND_LIMIT, ObjectKind, Service, Width};
@@ -42,26 +42,6 @@ pub enum Form {
     Bytes,
 }
 
-// How many operands name the object of a service.
-fn object_operands(kind: ObjectKind) -> usize
-    ensures { result ≡ object_operands kind }
-{
-    match kind {
-        ObjectKind::Nothing => 0,
-        ObjectKind::Task | ObjectKind::Resource | ObjectKind::Alarm => 1,
-    }
-}
-
-fn service_takes(service: Service, count: usize) -> bool
-    ensures { result ≡ service_takes service count }
-{
-    let objects = object_operands(service.object_kind());
-    if service.has_mask() {
-        return count > objects;
-    }
-    count == objects
-}
-
 /// Whether a statement may have so many operands.
 pub fn takes(mnemonic: Mnemonic, count: usize) -> bool
     ensures { result ≡ is_operand_count mnemonic count }
@@ -78,7 +58,12 @@ pub fn takes(mnemonic: Mnemonic, count: usize) -> bool
             count == 2
         },
         Mnemonic::Jump | Mnemonic::Invoke => count == 1,
-        Mnemonic::Serve(service) => service_takes(service, count),
+        Mnemonic::Serve(service) => match (service.has_mask(), service.object_kind()) {
+            (true, ObjectKind::Nothing) => count >= 1,
+            (true, _) => count >= 2,
+            (false, ObjectKind::Nothing) => count == 0,
+            (false, _) => count == 1,
+        },
     }
 }
 

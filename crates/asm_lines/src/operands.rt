@@ -1,15 +1,17 @@
-//! Operands by their forms. Names of registers.
-ghost use Rattle.std.specs.Prelude.{◌≡◌, IfOk, ◌<◌, IfSome};
-ghost use Rattle.asm_lines.specs.Operands.{small_of, direct_operand, indexed_operand, in_brackets, bracketed_operand, place, read_operand};
-ghost use Rattle.asm_lines.specs.Registers.{lettered_register, small_number, register};
+//! Operands by their forms. Names of registers. Numbers of task source.
+ghost use Rattle.std.specs.Prelude.{◌≡◌, IfOk, ◌<◌, IfSome, ◌≤◌};
+ghost use Rattle.asm_lines.specs.Operands.{small_of, direct_operand, in_brackets, place, read_operand};
+ghost use Rattle.asm_lines.specs.Registers.{small_number, register};
+ghost use Rattle.std.specs.List.{list_all};
+ghost use Rattle.std.specs.Char.{is_ascii_digit, is_ascii_hexdigit};
+ghost use Rattle.asm_lines.specs.Numbers.{is_hexadecimal, magnitude, signed_number, number, is_within};
 
 use crate::Form;
-use crate::bytes::trim;
-use crate::numerals::{is_within, number};
+use crate::source_line::trim;
 use hex::{FromHexError, decode};
 use sloth_base::{List, Name, NoMemory, OPERAND_LIMIT, Reg, Result};
 use std::alloc::Global;
-use text_pieces::{after, before, behind, front, has, is_name, same};
+use text_pieces::{after, before, behind, front, has, is_name, same, value};
 
 /// What an operand is.
 #[derive(Drop)]
@@ -65,26 +67,6 @@ fn direct(alloc: Global, name: &[u8], offset: Small) -> Result<Operand>
     }
 }
 
-fn indexed(alloc: Global, name: &[u8], index: Option<Reg>, mask: Small) -> Result<Operand>
-    ensures { IfOk result (λ o. o ≡ indexed_operand name.now index mask) }
-{
-    if !is_name(name) {
-        return Ok(Operand::Wrong);
-    }
-    let Some(index) = index else {
-        return Ok(Operand::Wrong);
-    };
-    match mask {
-        Small::NoNumber => Ok(Operand::Wrong),
-        Small::TooFar => Ok(Operand::Outside),
-        Small::Is(mask) => {
-            let name = Name::new(alloc, name)?;
-            Ok(Operand::Indexed { name, index, mask })
-        },
-    }
-}
-
-// With this text between its brackets.
 #[tactic(auto, unfolding(crate::specs::Operands::in_brackets))]
 fn in_brackets(alloc: Global, in_frame: bool, name: &[u8], inside: &[u8]) -> Result<Operand>
     ensures { IfOk result (λ o. o ≡ in_brackets in_frame name.now inside.now) }
@@ -92,7 +74,17 @@ fn in_brackets(alloc: Global, in_frame: bool, name: &[u8], inside: &[u8]) -> Res
     if has(inside, b'&') {
         let index = register(trim(before(inside, b'&')));
         let mask = limited(number(trim(behind(inside, b'&'))));
-        return indexed(alloc, name, index, mask);
+        if !is_name(name) {
+            return Ok(Operand::Wrong);
+        }
+        return match (index, mask) {
+            (None, _) | (_, Small::NoNumber) => Ok(Operand::Wrong),
+            (_, Small::TooFar) => Ok(Operand::Outside),
+            (Some(index), Small::Is(mask)) => {
+                let name = Name::new(alloc, name)?;
+                Ok(Operand::Indexed { name, index, mask })
+            },
+        };
     }
     if in_frame && same(name, b"frame") {
         return Ok(match limited(number(inside)) {
@@ -104,23 +96,17 @@ fn in_brackets(alloc: Global, in_frame: bool, name: &[u8], inside: &[u8]) -> Res
     Ok(Operand::Wrong)
 }
 
-// `NAME[..]`
-#[tactic(auto, unfolding(crate::specs::Operands::bracketed_operand))]
-fn bracketed(alloc: Global, in_frame: bool, name: &[u8], rest: &[u8]) -> Result<Operand>
-    ensures { IfOk result (λ o. o ≡ bracketed_operand in_frame name.now rest.now) }
-{
-    if rest.is_empty() || rest[rest.len() - 1] != b']' {
-        return Ok(Operand::Wrong);
-    }
-    in_brackets(alloc, in_frame, name, trim(front(rest, rest.len() - 1)))
-}
-
-#[tactic(auto, unfolding(crate::specs::Operands::place))]
+#[tactic(auto, unfolding(crate::specs::Operands::place, crate::specs::Operands::bracketed_operand))]
 fn place(alloc: Global, in_frame: bool, text: &[u8]) -> Result<Operand>
     ensures { IfOk result (λ o. o ≡ place in_frame text.now) }
 {
     if has(text, b'[') {
-        return bracketed(alloc, in_frame, before(text, b'['), behind(text, b'['));
+        let rest = behind(text, b'[');
+        if rest.is_empty() || rest[rest.len() - 1] != b']' {
+            return Ok(Operand::Wrong);
+        }
+        let inside = trim(front(rest, rest.len() - 1));
+        return in_brackets(alloc, in_frame, before(text, b'['), inside);
     }
     if has(text, b'+') {
         let offset = limited(number(trim(behind(text, b'+'))));
@@ -170,22 +156,6 @@ fn small_number(text: &[u8]) -> Option<u8>
     None
 }
 
-// The register of a letter and a number.
-fn lettered(letter: u8, n: u8) -> Option<Reg>
-    requires { n < 100 }
-    ensures { result ≡ lettered_register letter n }
-{
-    match letter {
-        b'x' if n == 0 || (n >= 5 && n <= 29) => Some(Reg(n)),
-        b't' if n <= 2 => Some(Reg(5 + n)),
-        b't' if n <= 4 => Some(Reg(25 + n)),
-        b's' if n <= 1 => Some(Reg(8 + n)),
-        b's' if n <= 11 => Some(Reg(16 + n)),
-        b'a' if n <= 7 => Some(Reg(10 + n)),
-        _ => None,
-    }
-}
-
 /// The register of this name, where task code may use it: x0, or x5 to x29.
 #[tactic(auto, unfolding(crate::specs::Registers::register))]
 pub fn register(name: &[u8]) -> Option<Reg>
@@ -200,8 +170,82 @@ pub fn register(name: &[u8]) -> Option<Reg>
     if name.is_empty() {
         return None;
     }
-    match small_number(after(name, 1)) {
-        Some(n) => lettered(name[0], n),
-        None => None,
+    let Some(n) = small_number(after(name, 1)) else {
+        return None;
+    };
+    match name[0] {
+        b'x' if n == 0 || (n >= 5 && n <= 29) => Some(Reg(n)),
+        b't' if n <= 2 => Some(Reg(5 + n)),
+        b't' if n <= 4 => Some(Reg(25 + n)),
+        b's' if n <= 1 => Some(Reg(8 + n)),
+        b's' if n <= 11 => Some(Reg(16 + n)),
+        b'a' if n <= 7 => Some(Reg(10 + n)),
+        _ => None,
     }
+}
+
+fn are_digits(text: &[u8]) -> bool
+    ensures { result ≡ list_all is_ascii_digit text.now }
+{
+    text.iter().all(|byte| byte.is_ascii_digit())
+}
+
+fn are_hex_digits(text: &[u8]) -> bool
+    ensures { result ≡ list_all is_ascii_hexdigit text.now }
+{
+    text.iter().all(|byte| byte.is_ascii_hexdigit())
+}
+
+// Whether `0x` stands in front.
+fn is_hexadecimal(text: &[u8]) -> bool
+    ensures { result ≡ is_hexadecimal text.now }
+{
+    text.len() > 1 && text[0] == b'0' && text[1] == b'x'
+}
+
+// The number of the digits, in the base that stands in front.
+#[tactic(auto, unfolding(crate::specs::Numbers::magnitude))]
+fn magnitude(text: &[u8]) -> Option<u64>
+    ensures value { result ≡ magnitude text.now }
+    ensures small { IfSome result (λ n. n ≤ 4294967296) }
+{
+    if is_hexadecimal(text) {
+        let digits = after(text, 2);
+        if digits.is_empty() || !are_hex_digits(digits) {
+            return None;
+        }
+        return Some(value(digits, 16));
+    }
+    if text.is_empty() || !are_digits(text) {
+        return None;
+    }
+    Some(value(text, 10))
+}
+
+fn signed(is_negative: bool, magnitude: Option<u64>) -> Option<i64>
+    requires { IfSome magnitude (λ n. n ≤ 4294967296) }
+    ensures { result ≡ signed_number is_negative magnitude }
+{
+    match magnitude {
+        None => None,
+        Some(n) => Some(if is_negative { -(n as i64) } else { n as i64 }),
+    }
+}
+
+/// The number that this text is.
+#[tactic(auto, unfolding(crate::specs::Numbers::number))]
+pub fn number(text: &[u8]) -> Option<i64>
+    ensures { result ≡ number text.now }
+{
+    if !text.is_empty() && text[0] == b'-' {
+        signed(true, magnitude(after(text, 1)))
+    } else {
+        signed(false, magnitude(text))
+    }
+}
+
+pub fn is_within(low: i64, high: i64, n: i64) -> bool
+    ensures { result ≡ is_within low high n }
+{
+    n >= low && n <= high
 }

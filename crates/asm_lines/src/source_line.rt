@@ -1,20 +1,22 @@
-//! What a line of task source is. Reads task source.
-ghost use Rattle.std.specs.Prelude.{◌≡◌, IfOk, map, ◌<◌, length, IfErr, OnOk};
+//! What a line of task source is. Reads task source. Bytes of task source. The faults of lines: A1 to A4.
+ghost use Rattle.std.specs.Prelude.{◌≡◌, IfOk, map, ◌<◌, length, IfErr, OnOk, reverse, ◌^◌};
 ghost use Rattle.text_pieces.specs.Names.{referent};
-ghost use Rattle.asm_lines.specs.SourceLines.{has_empty, read_operands, statement, source_line};
+ghost use Rattle.asm_lines.specs.SourceLines.{has_empty, read_operands, source_line};
 ghost use Rattle.asm_lines.specs.Lines.{operands_of};
-ghost use Rattle.asm_lines.specs.Bytes.{trim};
+ghost use Rattle.asm_lines.specs.Bytes.{trim, trim_start, is_blank, is_shown, is_letter, word_of};
 ghost use Rattle.sloth_base.specs.Order.{ErrorIs, NoFault};
-ghost use Rattle.asm_lines.specs.Faults.{source_lines, SourceLinesFault};
+ghost use Rattle.asm_lines.specs.Faults.{source_lines, SourceLinesFault, is_wrong, is_outside, is_long, is_a1, is_a2, is_a3, is_a4, after_line, LineFault, SourceFault};
+ghost use Rattle.std.specs.List.{take_while, list_all, list_any};
+ghost use Rattle.sloth_base.specs.ImageRange.{continues_word};
+ghost use Rattle.sloth_base.specs.Search.{IsSearchResult};
 
-use crate::bytes::{are_shown, begins_with_letter, first_word, is_blank, trim};
 use crate::operands::read_operand;
-use crate::rules::source_fault;
 use crate::table::mnemonic;
-use crate::{Mnemonic, Operand, form_of};
-use sloth_base::{BuildError, List, Result};
+use crate::{Mnemonic, Operand, closes, form_of, is_outer, opens, takes};
+use sloth_base::refusal::{fault_if, merge};
+use sloth_base::{BuildError, Code, List, Part, Refusal, Result};
 use std::alloc::Global;
-use text_pieces::{after, before, lines, push, split};
+use text_pieces::{after, before, continues_word, front, lines, push, split};
 
 /// What a line of task source is.
 #[derive(Drop)]
@@ -42,7 +44,6 @@ fn trimmed<'a>(alloc: Global, parts: &[&'a [u8]]) -> Result<Vec<&'a [u8]>>
     Ok(operands)
 }
 
-// The operands in a text, without the blanks around them.
 #[tactic(auto, unfolding(crate::specs::Lines::operands_of))]
 fn operand_texts<'a>(alloc: Global, text: &'a [u8]) -> Result<Vec<&'a [u8]>>
     ensures { IfOk result (λ operands. map referent operands.items ≡ operands_of text.now) }
@@ -51,11 +52,9 @@ fn operand_texts<'a>(alloc: Global, text: &'a [u8]) -> Result<Vec<&'a [u8]>>
         return Ok(Vec::new(alloc));
     }
     let parts = split(alloc, text, b',')?;
-    let operands = trimmed(alloc, parts.as_slice())?;
-    Ok(operands)
+    trimmed(alloc, parts.as_slice())
 }
 
-// Whether one of the texts is empty.
 #[tactic(auto, unfolding(crate::specs::SourceLines::has_empty))]
 fn has_empty(texts: &[&[u8]]) -> bool
     ensures { result ≡ has_empty (map referent texts.now) }
@@ -68,7 +67,6 @@ fn has_empty(texts: &[&[u8]]) -> bool
     false
 }
 
-// The operands of a statement.
 fn read_operands(alloc: Global, mnemonic: Mnemonic, texts: &[&[u8]]) -> Result<Vec<Operand>>
     ensures { IfOk result (λ operands. operands.items ≡ read_operands mnemonic 0 (map referent texts.now)) }
 {
@@ -78,23 +76,6 @@ fn read_operands(alloc: Global, mnemonic: Mnemonic, texts: &[&[u8]]) -> Result<V
         push(&mut operands, operand)?;
     }
     Ok(operands)
-}
-
-// The statement of a first word with these operands.
-fn statement(alloc: Global, word: &[u8], texts: &[&[u8]]) -> Result<SourceLine>
-    ensures { IfOk result (λ line. line ≡ statement word.now (map referent texts.now)) }
-{
-    if has_empty(texts) {
-        return Ok(SourceLine::Shapeless);
-    }
-    let Some(mnemonic) = mnemonic(word) else {
-        return Ok(SourceLine::Unknown);
-    };
-    let operands = read_operands(alloc, mnemonic, texts)?;
-    Ok(SourceLine::Statement {
-        mnemonic,
-        operands: List::from_vec(operands),
-    })
 }
 
 /// What a line is.
@@ -111,8 +92,15 @@ pub fn source_line(alloc: Global, line: &[u8]) -> Result<SourceLine>
     if !are_shown(text) || !begins_with_letter(text) || !(rest.is_empty() || is_blank(rest[0])) {
         return Ok(SourceLine::Shapeless);
     }
-    let operands = operand_texts(alloc, rest)?;
-    statement(alloc, word, operands.as_slice())
+    let texts = operand_texts(alloc, rest)?;
+    if has_empty(texts.as_slice()) {
+        return Ok(SourceLine::Shapeless);
+    }
+    let Some(mnemonic) = mnemonic(word) else {
+        return Ok(SourceLine::Unknown);
+    };
+    let operands = List::from_vec(read_operands(alloc, mnemonic, texts.as_slice())?);
+    Ok(SourceLine::Statement { mnemonic, operands })
 }
 
 fn all_read(alloc: Global, lines: &[&[u8]]) -> Result<Vec<SourceLine>>
@@ -120,8 +108,7 @@ fn all_read(alloc: Global, lines: &[&[u8]]) -> Result<Vec<SourceLine>>
 {
     let mut read = Vec::new(alloc);
     for line in lines {
-        let line = source_line(alloc, *line)?;
-        push(&mut read, line)?;
+        push(&mut read, source_line(alloc, *line)?)?;
     }
     Ok(read)
 }
@@ -148,4 +135,172 @@ pub fn read(alloc: Global, text: &[u8]) -> Result<List<SourceLine>, BuildError>
         None => Ok(read),
         Some(fault) => Err(BuildError::Refused(fault)),
     }
+}
+
+/// A space or a tab.
+pub fn is_blank(byte: u8) -> bool
+    ensures { result ≡ is_blank byte }
+{
+    byte == b' ' || byte == b'\t'
+}
+
+/// Whether all bytes may stand outside a comment.
+pub fn are_shown(text: &[u8]) -> bool
+    ensures { result ≡ list_all is_shown text.now }
+{
+    text.iter()
+        .all(|byte| *byte == b'\t' || (*byte >= 0x20 && *byte <= 0x7E))
+}
+
+/// Whether a letter begins the text.
+pub fn begins_with_letter(text: &[u8]) -> bool
+    ensures { result ≡ is_letter text.now }
+{
+    !text.is_empty() && text[0].is_ascii_alphabetic()
+}
+
+fn word_length(text: &[u8]) -> usize
+    ensures { result ≡ length (take_while continues_word text.now) }
+{
+    text.iter().take_while(|it| continues_word(**it)).count()
+}
+
+/// The longest front of letters, digits and `_`.
+pub fn first_word(text: &[u8]) -> &[u8]
+    ensures { result.now ≡ word_of text.now }
+{
+    front(text, word_length(text))
+}
+
+fn leading_blanks(text: &[u8]) -> usize
+    ensures { result ≡ length (take_while is_blank text.now) }
+{
+    text.iter().take_while(|byte| is_blank(**byte)).count()
+}
+
+fn trailing_blanks(text: &[u8]) -> usize
+    ensures { result ≡ length (take_while is_blank (reverse text.now)) }
+{
+    text.iter().rev().take_while(|it| is_blank(**it)).count()
+}
+
+/// The text without the blanks in front.
+pub fn trim_start(text: &[u8]) -> &[u8]
+    ensures { result.now ≡ trim_start text.now }
+{
+    after(text, leading_blanks(text))
+}
+
+/// The text without the blanks at both ends.
+#[tactic(auto, unfolding(crate::specs::Bytes::trim))]
+pub fn trim(text: &[u8]) -> &[u8]
+    ensures { result.now ≡ trim text.now }
+{
+    let rest = trim_start(text);
+    front(rest, rest.len().saturating_sub(trailing_blanks(rest)))
+}
+
+fn has_wrong(operands: &[Operand]) -> bool
+    ensures { result ≡ list_any is_wrong operands.now }
+{
+    operands.iter().any(|it| matches!(it, Operand::Wrong))
+}
+
+fn has_outside(operands: &[Operand]) -> bool
+    ensures { result ≡ list_any is_outside operands.now }
+{
+    operands.iter().any(|it| matches!(it, Operand::Outside))
+}
+
+// More bytes than the number before them says.
+fn is_long(operands: &[Operand]) -> bool
+    ensures { result ≡ is_long operands.now }
+{
+    match operands {
+        [_, Operand::Number(size), Operand::Bytes(bytes), ..] => {
+            *size < 0 || (*size as usize) < bytes.items().len()
+        },
+        _ => false,
+    }
+}
+
+/// A1: no statement, or one that has no place there.
+pub fn is_a1(inside: bool, line: &SourceLine) -> bool
+    ensures { result ≡ is_a1 inside line.now }
+{
+    match line {
+        SourceLine::Empty => false,
+        SourceLine::Shapeless => true,
+        SourceLine::Unknown => !inside,
+        SourceLine::Statement { mnemonic, .. } => is_outer(*mnemonic) == inside,
+    }
+}
+
+/// A2: inside a body, a word that begins no statement.
+pub fn is_a2(inside: bool, line: &SourceLine) -> bool
+    ensures { result ≡ is_a2 inside line.now }
+{
+    inside && matches!(line, SourceLine::Unknown)
+}
+
+/// A3: a wrong number or form of operands.
+pub fn is_a3(line: &SourceLine) -> bool
+    ensures { result ≡ is_a3 line.now }
+{
+    match line {
+        SourceLine::Statement { mnemonic, operands } => {
+            let operands = operands.items();
+            !takes(*mnemonic, operands.len()) || has_wrong(operands)
+        },
+        _ => false,
+    }
+}
+
+/// A4: a number outside its range, or more bytes than a `data` has.
+pub fn is_a4(line: &SourceLine) -> bool
+    ensures { result ≡ is_a4 line.now }
+{
+    match line {
+        SourceLine::Statement { operands, .. } => {
+            let operands = operands.items();
+            has_outside(operands) || is_long(operands)
+        },
+        _ => false,
+    }
+}
+
+/// Whether what follows the line is inside a body.
+pub fn after_line(inside: bool, line: &SourceLine) -> bool
+    ensures { result ≡ after_line inside line.now }
+{
+    let SourceLine::Statement { mnemonic, .. } = line else {
+        return inside;
+    };
+    opens(*mnemonic) || (inside && !closes(*mnemonic))
+}
+
+// The least fault of a line.
+fn line_fault(inside: bool, number: u32, line: &SourceLine) -> Option<Refusal>
+    ensures { IsSearchResult (LineFault inside number line.now) result }
+{
+    let a1 = fault_if(is_a1(inside, line), Part::Src, number, Code::A1);
+    let a2 = fault_if(is_a2(inside, line), Part::Src, number, Code::A2);
+    let a3 = fault_if(is_a3(line), Part::Src, number, Code::A3);
+    let a4 = fault_if(is_a4(line), Part::Src, number, Code::A4);
+    merge(a1, merge(a2, merge(a3, a4)))
+}
+
+/// The least fault of these lines.
+pub fn source_fault(lines: &[SourceLine]) -> Option<Refusal>
+    requires { length lines.now < 2 ^ 32 }
+    ensures { IsSearchResult (SourceFault lines.now) result }
+{
+    let mut least = None;
+    let mut inside = false;
+    for (n, line) in lines.iter().enumerate() {
+        least = merge(least, line_fault(inside, n as u32 + 1, line));
+        inside = after_line(inside, line);
+    }
+    let at_end = fault_if(inside, Part::Src, lines.len() as u32, Code::A1);
+    merge(least, at_end)
 }

@@ -16,6 +16,15 @@ macro_rules! kind_named {
     }};
 }
 
+// The statement of the first kind that has the word.
+macro_rules! first_kind {
+    ($word:expr; $($kind_named:ident => $statement:path),+) => {
+        $(if let Some(kind) = $kind_named($word) {
+            return Some($statement(kind));
+        })+
+    };
+}
+
 #[tactic(auto, unfolding(crate::specs::Table::alu_of))]
 fn alu_kind(word: &[u8]) -> Option<AluKind>
     ensures { result ≡ alu_of word.now }
@@ -78,26 +87,8 @@ fn plain_mnemonic(word: &[u8]) -> Option<Mnemonic>
 pub fn mnemonic(word: &[u8]) -> Option<Mnemonic>
     ensures { result ≡ mnemonic_of word.now }
 {
-    if let Some(kind) = alu_kind(word) {
-        return Some(Mnemonic::Alu(kind));
-    }
-    if let Some(kind) = imm_kind(word) {
-        return Some(Mnemonic::Imm(kind));
-    }
-    if let Some(kind) = shift_kind(word) {
-        return Some(Mnemonic::Shift(kind));
-    }
-    if let Some(kind) = load_width(word) {
-        return Some(Mnemonic::Load(kind));
-    }
-    if let Some(kind) = store_width(word) {
-        return Some(Mnemonic::Store(kind));
-    }
-    if let Some(kind) = branch_kind(word) {
-        return Some(Mnemonic::Branch(kind));
-    }
-    if let Some(kind) = service_named(word) {
-        return Some(Mnemonic::Serve(kind));
-    }
+    first_kind!(word; alu_kind => Mnemonic::Alu, imm_kind => Mnemonic::Imm, shift_kind => Mnemonic::Shift,
+        load_width => Mnemonic::Load, store_width => Mnemonic::Store, branch_kind => Mnemonic::Branch,
+        service_named => Mnemonic::Serve);
     plain_mnemonic(word)
 }

@@ -1,23 +1,31 @@
-//! A5 to A7 of bodies. The least fault of names and limits.
-ghost use Rattle.std.specs.Prelude.{◌≡◌, ◌+◌, ◌<◌, ◌^◌, take, length, ◌⊎◌, All, IfOk};
+//! A5 to A7 of bodies. The least fault of names and limits. Long names, and what counts against a limit.
+ghost use Rattle.std.specs.Prelude.{◌≡◌, ◌+◌, ◌<◌, ◌^◌, take, length, ◌⊎◌, All, IfOk, ◌≤◌, if◌then◌else◌, count_by};
 ghost use Rattle.sloth_base.specs.Search.{IsSearchResult, Somewhere};
-ghost use Rattle.asm_scopes.specs.Statements.{label_names};
+ghost use Rattle.asm_scopes.specs.Statements.{label_names, is_data, is_label, is_item, written_name};
 ghost use Rattle.asm_scopes.specs.Bodies.{function_names, bodies_of};
-ghost use Rattle.asm_parse.specs.NameFaults.{is_too_great, is_strange, is_misnamed, is_beyond, HeaderFault, BodyLineFault, LineNameFault, BodyNameFault, is_body_missing, NameFault};
+ghost use Rattle.asm_parse.specs.NameFaults.{is_too_great, is_strange, is_misnamed, is_beyond, HeaderFault, BodyLineFault, LineNameFault, BodyNameFault, is_body_missing, NameFault, has_long_name, has_long, bytes_of};
 ghost use Rattle.asm_scopes.specs.Scopes.{scope_of};
+ghost use Rattle.std.specs.List.{list_any};
+ghost use Rattle.sloth_base.specs.Limits.{operand_limit};
 
-use crate::data_faults::data_faults;
-use crate::limits::has_long;
-use crate::{count_item, count_items, count_label};
-use asm_lines::SourceLine;
+use crate::apps::data_faults;
+use asm_lines::{Operand, SourceLine};
 use asm_scopes::{
-    Body, Scope, is_item, is_label, is_task, label_names, name_of, number_of, scope_of,
-    task_body_names,
+    Body, Scope, is_data, is_item, is_label, is_task, label_names, name_of, number_of, scope_of,
+    task_body_names, written,
 };
-use sloth_base::least_fault::{fault_if, merge};
-use sloth_base::{BODY_LIMIT, Code, Config, FRAME_LIMIT, ITEM_LIMIT, Part, Refusal, Result};
+use sloth_base::refusal::{fault_if, merge};
+use sloth_base::{
+    BODY_LIMIT, Code, Config, FRAME_LIMIT, ITEM_LIMIT, NAME_LIMIT, Part, Refusal, Result,
+};
 use std::alloc::Global;
 use text_pieces::Names;
+
+/// The least refusal that was found, or none.
+pub type Found = Option<Refusal>;
+
+/// The same, where memory may be wanting.
+pub type Verdict = Result<Found>;
 
 /// A6 of a header behind so many bodies: one body too many, a frame of too many words, or a long name.
 pub fn is_too_great(count: usize, header: &SourceLine) -> bool
@@ -33,8 +41,7 @@ pub fn is_strange(scope: &Scope, header: &SourceLine) -> bool
     is_task(header) && !scope.tasks.has(name_of(header))
 }
 
-// The least fault of a header behind the first `count` bodies.
-fn header_fault(scope: &Scope, count: usize, number: u32, header: &SourceLine) -> Option<Refusal>
+fn header_fault(scope: &Scope, count: usize, number: u32, header: &SourceLine) -> Found
     ensures { IsSearchResult (HeaderFault scope.now (take count scope.now.functions) count number header.now) result }
 {
     let doubled = scope.functions.is_among_first(count, name_of(header));
@@ -59,7 +66,6 @@ pub fn is_beyond(items: usize, line: &SourceLine) -> bool
     (is_item(line) && items == ITEM_LIMIT) || has_long(line)
 }
 
-// The least fault of a line behind the first `count` labels.
 fn inner_fault(
     scope: &Scope,
     labels: &Names,
@@ -67,7 +73,7 @@ fn inner_fault(
     items: usize,
     number: u32,
     line: &SourceLine,
-) -> Option<Refusal>
+) -> Found
     ensures { IsSearchResult (BodyLineFault scope.now labels.now (take count labels.now) items number line.now) result }
 {
     let test = is_misnamed(scope, labels, count, line);
@@ -76,24 +82,18 @@ fn inner_fault(
     merge(misnamed, beyond)
 }
 
-// The least fault of the lines of a body, whose header stands on line `number` behind so many items.
-fn line_faults(
-    scope: &Scope,
-    labels: &Names,
-    items: usize,
-    number: u32,
-    lines: &[SourceLine],
-) -> Option<Refusal>
-    requires few { number + length lines.now < 2 ^ 32 }
+// The least fault of the lines of a body, whose header stands on line `at` behind so many items.
+fn line_faults(scope: &Scope, labels: &Names, items: usize, at: u32, lines: &[SourceLine]) -> Found
+    requires few { at + length lines.now < 2 ^ 32 }
     requires items { items + length lines.now < 2 ^ 64 }
     requires labels { labels.now ≡ label_names lines.now }
-    ensures { IsSearchResult (Somewhere (LineNameFault scope.now labels.now items number) lines.now) result }
+    ensures { IsSearchResult (Somewhere (LineNameFault scope.now labels.now items at) lines.now) result }
 {
     let mut least = None;
     let mut count = 0;
     let mut items = items;
     for (n, line) in lines.iter().enumerate() {
-        let number = number + n as u32 + 1;
+        let number = at + n as u32 + 1;
         let found = inner_fault(scope, labels, count, items, number, line);
         least = merge(least, found);
         count += count_label(line);
@@ -102,14 +102,7 @@ fn line_faults(
     least
 }
 
-// The least fault of a body behind the first `count` bodies, which have so many items.
-fn body_fault(
-    alloc: Global,
-    scope: &Scope,
-    count: usize,
-    items: usize,
-    body: &Body,
-) -> Result<Option<Refusal>>
+fn body_fault(alloc: Global, scope: &Scope, count: usize, items: usize, body: &Body) -> Verdict
     requires few { body.now.line + length body.now.lines < 2 ^ 32 }
     requires items { items + length body.now.lines < 2 ^ 64 }
     ensures { IfOk result (λ found. IsSearchResult (λ r.
@@ -124,7 +117,7 @@ fn body_fault(
 }
 
 /// The least fault of these bodies.
-pub fn body_faults(alloc: Global, scope: &Scope, bodies: &[Body]) -> Result<Option<Refusal>>
+pub fn body_faults(alloc: Global, scope: &Scope, bodies: &[Body]) -> Verdict
     requires few { length bodies.now < 2 ^ 32 }
     requires short { All (λ body. body.line + length body.lines < 2 ^ 32) bodies.now }
     requires functions { scope.now.functions ≡ function_names bodies.now }
@@ -149,38 +142,87 @@ pub fn is_body_missing(alloc: Global, config: &Config, bodies: &[Body]) -> Resul
     Ok(tasks.iter().any(|task| !names.has(task.name.bytes())))
 }
 
-// The least fault in these lines, which may use these names.
-fn fault_in_scope(
-    alloc: Global,
-    config: &Config,
-    lines: &[SourceLine],
-    bodies: &[Body],
-    scope: &Scope,
-) -> Result<Option<Refusal>>
-    requires few { length lines.now < 2 ^ 32 }
-    requires bodies { bodies.now ≡ bodies_of lines.now }
-    requires scope { scope.now ≡ scope_of config.now lines.now bodies.now }
-    ensures { IfOk result (λ found. IsSearchResult (NameFault config.now lines.now) found) }
-{
-    let of_data = data_faults(&scope.symbols, lines);
-    let of_bodies = body_faults(alloc, scope, bodies)?;
-    let lacks = is_body_missing(alloc, config, bodies)?;
-    let of_tasks = fault_if(lacks, Part::Src, 1, Code::A7);
-    Ok(merge(of_data, merge(of_bodies, of_tasks)))
-}
-
 /// The least fault of names and limits in these lines: A5 for a doubled name, or one that nothing of the wanted kind
 /// has; A6 for a limit that is passed; A7 for a task without a body, or a body without its task.
-pub fn judge(
-    alloc: Global,
-    config: &Config,
-    lines: &[SourceLine],
-    bodies: &[Body],
-) -> Result<Option<Refusal>>
+pub fn judge(alloc: Global, config: &Config, lines: &[SourceLine], bodies: &[Body]) -> Verdict
     requires few { length lines.now < 2 ^ 32 }
     requires bodies { bodies.now ≡ bodies_of lines.now }
     ensures { IfOk result (λ found. IsSearchResult (NameFault config.now lines.now) found) }
 {
     let scope = scope_of(alloc, config, lines, bodies)?;
-    fault_in_scope(alloc, config, lines, bodies, &scope)
+    let of_data = data_faults(&scope.symbols, lines);
+    let of_bodies = body_faults(alloc, &scope, bodies)?;
+    let lacks = is_body_missing(alloc, config, bodies)?;
+    let of_tasks = fault_if(lacks, Part::Src, 1, Code::A7);
+    Ok(merge(of_data, merge(of_bodies, of_tasks)))
+}
+
+fn has_long_name(operand: &Operand) -> bool
+    ensures { result ≡ has_long_name (written_name operand.now) }
+{
+    match written(operand) {
+        Some(name) => name.len() > NAME_LIMIT,
+        None => false,
+    }
+}
+
+fn any_long(operands: &[Operand]) -> bool
+    ensures { result ≡ list_any (λ x. has_long_name (written_name x)) operands.now }
+{
+    operands.iter().any(|operand| has_long_name(operand))
+}
+
+/// Whether one of the names that a line writes is long.
+pub fn has_long(line: &SourceLine) -> bool
+    ensures { result ≡ has_long line.now }
+{
+    match line {
+        SourceLine::Statement { operands, .. } => any_long(operands.items()),
+        _ => false,
+    }
+}
+
+/// The bytes that a line declares.
+pub fn bytes_of(line: &SourceLine) -> usize
+    ensures value { result ≡ bytes_of line.now }
+    ensures bound { result ≤ operand_limit }
+{
+    if is_data(line) {
+        number_of(line) as usize
+    } else {
+        0
+    }
+}
+
+/// One for a line that declares a symbol.
+pub fn count_data(line: &SourceLine) -> usize
+    ensures { result ≡ (if is_data line.now then 1 else 0) }
+{
+    usize::from(is_data(line))
+}
+
+/// One for a label.
+pub fn count_label(line: &SourceLine) -> usize
+    ensures { result ≡ (if is_label line.now then 1 else 0) }
+{
+    usize::from(is_label(line))
+}
+
+/// One for an item.
+pub fn count_item(line: &SourceLine) -> usize
+    ensures { result ≡ (if is_item line.now then 1 else 0) }
+{
+    usize::from(is_item(line))
+}
+
+/// How many of these lines are items.
+pub fn count_items(lines: &[SourceLine]) -> usize
+    ensures value { result ≡ count_by is_item lines.now }
+    ensures few { result ≤ length lines.now }
+{
+    let mut items = 0;
+    for line in lines {
+        items += count_item(line);
+    }
+    items
 }

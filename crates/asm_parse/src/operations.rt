@@ -1,10 +1,10 @@
 //! What an item does.
 ghost use Rattle.std.specs.Prelude.{◌≡◌, ◌<◌, ◌^◌, length};
 ghost use Rattle.asm_parse.specs.Numbered.{IsNumbered};
-ghost use Rattle.asm_parse.specs.Operations.{as_word, as_short, register_op, number_op, frame_op, symbol_op};
-ghost use Rattle.asm_parse.specs.Operations.{element_op, access_op, jump_op, op_by, op_of};
+ghost use Rattle.asm_parse.specs.Operations.{as_word, as_short, register_op, number_op};
+ghost use Rattle.asm_parse.specs.Operations.{access_op, jump_op, op_of};
 
-use crate::services::{place_number, service_call};
+use crate::bodies::{place_number, service_call};
 use asm_lines::Operand::{Direct, Frame, Indexed, Name, Number, Register};
 use asm_lines::{Mnemonic, Operand, SourceLine};
 use asm_scopes::Scope;
@@ -38,7 +38,6 @@ macro_rules! op {
     };
 }
 
-// The operation of a statement on registers.
 fn register_op(mnemonic: Mnemonic, operands: &[Operand]) -> Option<Op>
     ensures { result ≡ register_op mnemonic operands.now }
 {
@@ -54,7 +53,6 @@ fn register_op(mnemonic: Mnemonic, operands: &[Operand]) -> Option<Op>
     }
 }
 
-// The operation of a statement on registers and a number.
 fn number_op(mnemonic: Mnemonic, operands: &[Operand]) -> Option<Op>
     ensures { result ≡ number_op mnemonic operands.now }
 {
@@ -76,76 +74,34 @@ pub enum Access {
     Store,
 }
 
-// An access to a word of the frame.
-fn frame_op(access: Access, register: Reg, word: u32) -> Op
-    ensures { result ≡ frame_op access register word }
-{
-    match access {
-        Access::Load => Op::FrameLoad { rd: register, word },
-        Access::Store => Op::FrameStore { rs: register, word },
-    }
-}
-
-// An access to a symbol at a fixed offset.
-fn symbol_op(access: Access, width: Width, register: Reg, symbol: u32, offset: u32) -> Op
-    ensures { result ≡ symbol_op access width register symbol offset }
-{
-    let symbol = SymId(symbol);
-    match access {
-        Access::Load => Op::Load {
-            width,
-            rd: register,
-            symbol,
-            offset,
-        },
-        Access::Store => Op::Store {
-            width,
-            rs: register,
-            symbol,
-            offset,
-        },
-    }
-}
-
-// An access to a symbol at the offset that a register has under a mask.
-fn element_op(access: Access, width: Width, register: Reg, symbol: u32, index: Reg, mask: u32) -> Op
-    ensures { result ≡ element_op access width register symbol index mask }
-{
-    let symbol = SymId(symbol);
-    match access {
-        Access::Load => Op::LoadAt {
-            width,
-            rd: register,
-            symbol,
-            index,
-            mask,
-        },
-        Access::Store => Op::StoreAt {
-            width,
-            rs: register,
-            symbol,
-            index,
-            mask,
-        },
-    }
-}
-
-// The operation of a load or store.
 fn access_op(symbols: &Names, access: Access, width: Width, operands: &[Operand]) -> Option<Op>
     requires { length symbols.now < 2 ^ 32 }
     ensures { result ≡ access_op symbols.now access width operands.now }
 {
     match (width, operands) {
         (_, [Register(register), Direct { name, offset }]) => {
-            let symbol = place_number(symbols, name.bytes());
-            Some(symbol_op(access, width, *register, symbol, *offset))
+            let symbol = SymId(place_number(symbols, name.bytes()));
+            match access {
+                Access::Load =>
+                    op!(Load; width = width, rd = *register, symbol = symbol, offset = *offset),
+                Access::Store =>
+                    op!(Store; width = width, rs = *register, symbol = symbol, offset = *offset),
+            }
         },
         (_, [Register(register), Indexed { name, index, mask }]) => {
-            let symbol = place_number(symbols, name.bytes());
-            Some(element_op(access, width, *register, symbol, *index, *mask))
+            let symbol = SymId(place_number(symbols, name.bytes()));
+            match access {
+                Access::Load =>
+                    op!(LoadAt; width = width, rd = *register, symbol = symbol, index = *index,
+                    mask = *mask),
+                Access::Store =>
+                    op!(StoreAt; width = width, rs = *register, symbol = symbol, index = *index,
+                    mask = *mask),
+            }
         },
-        (Width::Word, [Register(register), Frame(word)]) => {
-            Some(frame_op(access, *register, *word))
+        (Width::Word, [Register(register), Frame(word)]) => match access {
+            Access::Load => op!(FrameLoad; rd = *register, word = *word),
+            Access::Store => op!(FrameStore; rs = *register, word = *word),
         },
         _ => None,
     }
@@ -166,18 +122,16 @@ fn jump_op(scope: &Scope, labels: &Names, mnemonic: Mnemonic, operands: &[Operan
     }
 }
 
-// The operation of a statement, if it is an item.
-fn statement_operation(
-    config: &Config,
-    scope: &Scope,
-    labels: &Names,
-    mnemonic: Mnemonic,
-    operands: &[Operand],
-) -> Option<Op>
+/// The operation of a line, if it is an item.
+pub fn operation(config: &Config, scope: &Scope, labels: &Names, line: &SourceLine) -> Option<Op>
     requires labels { length labels.now < 2 ^ 32 }
     requires numbered { IsNumbered scope.now }
-    ensures { result ≡ op_by config.now scope.now labels.now mnemonic operands.now }
+    ensures { result ≡ op_of config.now scope.now labels.now line.now }
 {
+    let SourceLine::Statement { mnemonic, operands } = line else {
+        return None;
+    };
+    let (mnemonic, operands) = (*mnemonic, operands.items());
     match mnemonic {
         Mnemonic::Load(width) => access_op(&scope.symbols, Access::Load, width, operands),
         Mnemonic::Store(width) => access_op(&scope.symbols, Access::Store, width, operands),
@@ -189,19 +143,5 @@ fn statement_operation(
             number_op(mnemonic, operands)
         },
         _ => register_op(mnemonic, operands),
-    }
-}
-
-/// The operation of a line, if it is an item.
-pub fn operation(config: &Config, scope: &Scope, labels: &Names, line: &SourceLine) -> Option<Op>
-    requires labels { length labels.now < 2 ^ 32 }
-    requires numbered { IsNumbered scope.now }
-    ensures { result ≡ op_of config.now scope.now labels.now line.now }
-{
-    match line {
-        SourceLine::Statement { mnemonic, operands } => {
-            statement_operation(config, scope, labels, *mnemonic, operands.items())
-        },
-        _ => None,
     }
 }

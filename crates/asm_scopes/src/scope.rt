@@ -1,12 +1,12 @@
 //! What a name may stand for where it is used.
 ghost use Rattle.std.specs.Prelude.{◌≡◌};
-ghost use Rattle.asm_scopes.specs.Scopes.{object_name, service_kind, kind_of, is_scheduler, is_named, is_lacking};
+ghost use Rattle.asm_scopes.specs.Scopes.{kind_of, is_scheduler, is_named, is_lacking};
 ghost use Rattle.asm_scopes.specs.Scopes.{any_unknown, has_unknown};
 ghost use Rattle.asm_scopes.specs.Statements.{written_name};
 
 use crate::written;
 use asm_lines::{Mnemonic, Operand, SourceLine};
-use sloth_base::{ObjectKind, Service};
+use sloth_base::ObjectKind;
 use text_pieces::{Names, same};
 
 /// What a name is the name of. A name in front of a declaration is used nowhere.
@@ -51,36 +51,6 @@ impl Drop for Scope<'_> {
     }
 }
 
-// What an operand that names the object of a service names.
-fn object_name(kind: ObjectKind) -> Kind
-    ensures { result ≡ object_name kind }
-{
-    match kind {
-        ObjectKind::Nothing | ObjectKind::Task => Kind::Task,
-        ObjectKind::Resource => Kind::Resource,
-        ObjectKind::Alarm => Kind::Alarm,
-    }
-}
-
-fn service_kind(service: Service, place: usize) -> Kind
-    ensures { result ≡ service_kind service place }
-{
-    let object = service.object_kind();
-    if !service.has_mask() {
-        return object_name(object);
-    }
-    match object {
-        ObjectKind::Nothing => Kind::Event,
-        ObjectKind::Task | ObjectKind::Resource | ObjectKind::Alarm => {
-            if place == 0 {
-                object_name(object)
-            } else {
-                Kind::Event
-            }
-        }
-    }
-}
-
 /// What the operand at this place of a statement names.
 pub fn kind_of(mnemonic: Mnemonic, place: usize) -> Kind
     ensures { result ≡ kind_of mnemonic place }
@@ -90,7 +60,13 @@ pub fn kind_of(mnemonic: Mnemonic, place: usize) -> Kind
         Mnemonic::Load(_) | Mnemonic::Store(_) => Kind::Symbol,
         Mnemonic::Branch(_) | Mnemonic::Jump => Kind::Label,
         Mnemonic::Invoke => Kind::Function,
-        Mnemonic::Serve(service) => service_kind(service, place),
+        Mnemonic::Serve(service) => match (service.has_mask(), service.object_kind()) {
+            (true, ObjectKind::Nothing) => Kind::Event,
+            (true, _) if place > 0 => Kind::Event,
+            (_, ObjectKind::Nothing | ObjectKind::Task) => Kind::Task,
+            (_, ObjectKind::Resource) => Kind::Resource,
+            (_, ObjectKind::Alarm) => Kind::Alarm,
+        },
         _ => Kind::Declared,
     }
 }

@@ -11,57 +11,47 @@ use sloth_base::{Config, Result};
 use std::alloc::Global;
 use text_pieces::Names;
 
+// A name of each of these, in their order.
+macro_rules! names_of {
+    ($alloc:expr; $item:ident in $items:expr => $name:expr) => {{
+        let mut names = Names::new($alloc);
+        for $item in $items {
+            names = names.with($name)?;
+        }
+        Ok(names)
+    }};
+}
+
 fn task_names<'t>(alloc: Global, config: &'t Config) -> Result<Names<'t>>
     ensures { IfOk result (λ names. names ≡ task_names config.now) }
 {
-    let mut names = Names::new(alloc);
-    for task in config.tasks.items() {
-        names = names.with(task.name.bytes())?;
-    }
-    Ok(names)
+    names_of!(alloc; task in config.tasks.items() => task.name.bytes())
 }
 
 fn resource_names<'t>(alloc: Global, config: &'t Config) -> Result<Names<'t>>
     ensures { IfOk result (λ names. names ≡ config.now.resources) }
 {
-    let mut names = Names::new(alloc);
-    for resource in config.resources.items() {
-        names = names.with(resource.bytes())?;
-    }
-    Ok(names)
+    names_of!(alloc; resource in config.resources.items() => resource.bytes())
 }
 
 fn event_names<'t>(alloc: Global, config: &'t Config) -> Result<Names<'t>>
     ensures { IfOk result (λ names. names ≡ event_names config.now) }
 {
-    let mut names = Names::new(alloc);
-    for event in config.events.items() {
-        names = names.with(event.name.bytes())?;
-    }
-    Ok(names)
+    names_of!(alloc; event in config.events.items() => event.name.bytes())
 }
 
 fn alarm_names<'t>(alloc: Global, config: &'t Config) -> Result<Names<'t>>
     ensures { IfOk result (λ names. names ≡ alarm_names config.now) }
 {
-    let mut names = Names::new(alloc);
-    for alarm in config.alarms.items() {
-        names = names.with(alarm.name.bytes())?;
-    }
-    Ok(names)
+    names_of!(alloc; alarm in config.alarms.items() => alarm.name.bytes())
 }
 
 fn function_names<'t>(alloc: Global, bodies: &[Body<'t>]) -> Result<Names<'t>>
     ensures { IfOk result (λ names. names ≡ function_names bodies.now) }
 {
-    let mut names = Names::new(alloc);
-    for body in bodies {
-        names = names.with(body.name())?;
-    }
-    Ok(names)
+    names_of!(alloc; body in bodies => body.name())
 }
 
-/// The names of the bodies of tasks, or of the others.
 fn names_of_bodies<'t>(alloc: Global, of_tasks: bool, bodies: &[Body<'t>]) -> Result<Names<'t>>
     ensures { IfOk result (λ names. names ≡ map body_name (filter (is_body_of of_tasks) bodies.now)) }
 {
@@ -77,11 +67,7 @@ fn names_of_bodies<'t>(alloc: Global, of_tasks: bool, bodies: &[Body<'t>]) -> Re
 fn is_wanted(of_task: bool, body: &Body) -> bool
     ensures { result ≡ is_body_of of_task body.now }
 {
-    if of_task {
-        body.is_task()
-    } else {
-        !body.is_task()
-    }
+    of_task == body.is_task()
 }
 
 /// The names of the tasks that have a body.
@@ -91,54 +77,31 @@ pub fn task_body_names<'t>(alloc: Global, bodies: &[Body<'t>]) -> Result<Names<'
     names_of_bodies(alloc, true, bodies)
 }
 
-/// The names of a configuration.
-#[derive(Drop)]
-struct ConfigNames<'t> {
-    tasks: Names<'t>,
-    resources: Names<'t>,
-    events: Names<'t>,
-}
+// Names of three kinds.
+type Three<'t> = (Names<'t>, Names<'t>, Names<'t>);
 
-fn names_of_config<'t>(alloc: Global, config: &'t Config) -> Result<ConfigNames<'t>>
-    ensures tasks { IfOk result (λ names. names.tasks ≡ task_names config.now) }
-    ensures resources { IfOk result (λ names. names.resources ≡ config.now.resources) }
-    ensures events { IfOk result (λ names. names.events ≡ event_names config.now) }
+// Those of the tasks, of the resources and of the events.
+fn config_names<'t>(alloc: Global, config: &'t Config) -> Result<Three<'t>>
+    ensures tasks { IfOk result (λ names. names.0 ≡ task_names config.now) }
+    ensures resources { IfOk result (λ names. names.1 ≡ config.now.resources) }
+    ensures events { IfOk result (λ names. names.2 ≡ event_names config.now) }
 {
     let tasks = task_names(alloc, config)?;
     let resources = resource_names(alloc, config)?;
     let events = event_names(alloc, config)?;
-    Ok(ConfigNames {
-        tasks,
-        resources,
-        events,
-    })
+    Ok((tasks, resources, events))
 }
 
-/// The names that lines and bodies give.
-#[derive(Drop)]
-struct SourceNames<'t> {
-    symbols: Names<'t>,
-    functions: Names<'t>,
-    called: Names<'t>,
-}
-
-fn names_of_source<'t>(
-    alloc: Global,
-    lines: &'t [SourceLine],
-    bodies: &[Body<'t>],
-) -> Result<SourceNames<'t>>
-    ensures symbols { IfOk result (λ names. names.symbols ≡ symbol_names lines.now) }
-    ensures functions { IfOk result (λ names. names.functions ≡ function_names bodies.now) }
-    ensures called { IfOk result (λ names. names.called ≡ called_names bodies.now) }
+// Those of the symbols, of the functions and of the functions that may be called.
+fn text_names<'t>(alloc: Global, lines: &'t [SourceLine], bodies: &[Body<'t>]) -> Result<Three<'t>>
+    ensures symbols { IfOk result (λ names. names.0 ≡ symbol_names lines.now) }
+    ensures functions { IfOk result (λ names. names.1 ≡ function_names bodies.now) }
+    ensures called { IfOk result (λ names. names.2 ≡ called_names bodies.now) }
 {
     let symbols = symbol_names(alloc, lines)?;
     let functions = function_names(alloc, bodies)?;
     let called = names_of_bodies(alloc, false, bodies)?;
-    Ok(SourceNames {
-        symbols,
-        functions,
-        called,
-    })
+    Ok((symbols, functions, called))
 }
 
 /// The names that a source with these lines and bodies may use.
@@ -151,16 +114,17 @@ pub fn scope_of<'t>(
     ensures { IfOk result (λ scope. scope ≡ scope_of config.now lines.now bodies.now) }
 {
     let alarms = alarm_names(alloc, config)?;
-    let declared = names_of_config(alloc, config)?;
-    let given = names_of_source(alloc, lines, bodies)?;
+    let (tasks, resources, events) = config_names(alloc, config)?;
+    let (symbols, functions, called) = text_names(alloc, lines, bodies)?;
+    let has_scheduler = config.res_scheduler;
     Ok(Scope {
-        tasks: declared.tasks,
-        resources: declared.resources,
-        events: declared.events,
+        tasks,
+        resources,
+        events,
         alarms,
-        has_scheduler: config.res_scheduler,
-        symbols: given.symbols,
-        functions: given.functions,
-        called: given.called,
+        has_scheduler,
+        symbols,
+        functions,
+        called,
     })
 }

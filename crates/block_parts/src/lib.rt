@@ -10,16 +10,13 @@
 
 pub mod entries;
 pub mod pieces;
-pub mod services;
 pub mod ticks;
 
 pub use entries::{
     ask_preempted, counter_level, jump, raise_autostarted, start_level, stay, take_own,
 };
 pub use pieces::{
-    BACK, OWN_ACTIVE, OWN_EVENTS, back_mark, end, go_back, leave, look, open, opening, raise,
-};
-pub use services::{
-    WAKE, ask, clear_own, find_ticks, keep, lower, refuse, release, take, tell_events, tell_resting,
+    BACK, OWN_ACTIVE, OWN_EVENTS, WAKE, ask, back_mark, clear_own, end, find_ticks, go_back, keep,
+    leave, look, lower, open, opening, raise, refuse, release, take, tell_events, tell_resting,
 };
 pub use ticks::{ask_busy, ask_greatest, look_unless_later, start_again};

@@ -1,7 +1,7 @@
 -- What items weigh.
 use Rattle.std.specs.Prelude.{ℕ, ◌+◌, min, List, [], get_or}
 use Rattle.sloth_base.specs.Limits.{size_limit}
-use Rattle.bound_rules.specs.declared.weights.BodyWeights.{BodyWeights}
+use Rattle.bound_rules.specs.declared.bound.BodyWeights.{BodyWeights}
 
 -- ---- weights
 

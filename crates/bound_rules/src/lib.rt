@@ -5,10 +5,8 @@
 #![tactic(auto)]
 
 pub mod bound;
-pub mod weights;
 
 pub use bound::{
-    Body, Bound, ENDLESS, Summary, UNKNOWN, callee, is_schedule, reaches_level, summary_of,
-    task_summary, told,
+    Body, BodyWeights, Bound, ENDLESS, Summary, UNKNOWN, callee, is_marked, is_schedule, joined,
+    number_at, reaches_level, size_behind, summary_of, task_summary, told, weights_at,
 };
-pub use weights::{BodyWeights, is_marked, joined, number_at, size_behind, weights_at};

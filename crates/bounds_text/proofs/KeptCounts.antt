@@ -13,7 +13,7 @@ use Rattle.osek_blocking.specs.Blocking.{events_up_to_entry}
 use Rattle.osek_blocking.specs.Pace.{last_count}
 use Rattle.osek_blocking.specs.Sections.{IsSectionFor}
 use Rattle.osek_blocking.specs.Spent.{spent_counts}
-use Rattle.bound_rules.specs.declared.weights.BodyWeights.{BodyWeights}
+use Rattle.bound_rules.specs.declared.bound.BodyWeights.{BodyWeights}
 use Rattle.bound_rules.specs.Weights.{no_weights, going_weight, ending_weight}
 use Rattle.bound_rules.specs.Tasks.{task_at}
 use Rattle.sim_induction.specs.Items.{length_of}

@@ -14,7 +14,7 @@ use Rattle.osek_scheduler.specs.Runs.{AreStepsTo}
 use Rattle.osek_scheduler.proofs.Facts.{facts}
 use Rattle.osek_scheduler.proofs.Leading.{follows_leads, leads-append}
 use Rattle.bound_rules.specs.declared.bound.Bound.{Bound}
-use Rattle.bound_rules.specs.declared.weights.BodyWeights.{BodyWeights}
+use Rattle.bound_rules.specs.declared.bound.BodyWeights.{BodyWeights}
 use Rattle.bound_rules.specs.Tasks.{task_at}
 use Rattle.bound_rules.specs.Weights.{ending_weight}
 use Rattle.sim_induction.specs.Events.{enter_counts, stretch_counts}

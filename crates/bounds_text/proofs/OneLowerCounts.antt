@@ -8,7 +8,7 @@ use Rattle.sloth_base.specs.Named.{function, item_of}
 use Rattle.sloth_source.proofs.Unique.{one_meaning}
 use Rattle.osek_scheduler.specs.Apart.{static_priority}
 use Rattle.osek_blocking.specs.Sections.{IsSection, IsLower}
-use Rattle.bound_rules.specs.declared.weights.BodyWeights.{BodyWeights}
+use Rattle.bound_rules.specs.declared.bound.BodyWeights.{BodyWeights}
 use Rattle.bound_rules.specs.Weights.{no_weights}
 use Rattle.rv32_expand.proofs.Agreeing.{size_same}
 use Rattle.rv32_expand.proofs.Least.{least_is_one}

@@ -18,7 +18,7 @@ use Rattle.osek_scheduler.specs.InTime.{is_admit}
 use Rattle.osek_scheduler.specs.Runs.{AreStepsTo}
 use Rattle.osek_blocking.specs.Blocking.{events_up_to_entry, MakesReady}
 use Rattle.bound_rules.specs.declared.bound.Bound.{Bound}
-use Rattle.bound_rules.specs.declared.weights.BodyWeights.{BodyWeights}
+use Rattle.bound_rules.specs.declared.bound.BodyWeights.{BodyWeights}
 use Rattle.bound_rules.specs.Tasks.{task_at}
 use Rattle.bound_rules.specs.Weights.{no_weights}
 use Rattle.sim_induction.specs.Events.{enter_counts}

@@ -11,7 +11,7 @@ use Rattle.sloth_base.specs.Limits.{count_limit}
 use Rattle.call_graph.specs.Reached.{any_below}
 use Rattle.call_graph.specs.Tables.{max_below}
 use Rattle.sloth_source.specs.Texts.{AreAccepted}
-use Rattle.bound_rules.specs.declared.weights.BodyWeights.{BodyWeights}
+use Rattle.bound_rules.specs.declared.bound.BodyWeights.{BodyWeights}
 use Rattle.bound_rules.specs.Weights.{no_weights}
 use Rattle.bound_rules.specs.Tasks.{task_at}
 use Rattle.walk_sums.specs.declared.sections.Sum.{Sum}

@@ -1,47 +1,36 @@
-//! The lines of the command `bounds OIL SRC latency`.
-ghost use Rattle.std.specs.Prelude.{◌≡◌, ◌<◌, ◌≤◌, ℕ, length, All, IfOk, IfErr};
+//! The lines of the command `bounds OIL SRC latency`: how long the task of highest priority may wait for its entry, and
+//! the most counts of ticks.
+ghost use Rattle.std.specs.Prelude.{◌≡◌, ◌<◌, ◌≤◌, ℕ, length, All, IfOk, IfErr, IfSome, IfNone, ◌+◌, ◌*◌, false};
 ghost use Rattle.sloth_base.specs.ConfigRange.{InRange};
-ghost use Rattle.sloth_base.specs.Limits.{frame_limit};
+ghost use Rattle.sloth_base.specs.Limits.{frame_limit, alarm_limit, counter_limit};
 ghost use Rattle.code_rules.specs.WellFormed.{WellFormed};
 ghost use Rattle.call_graph.specs.Ranks.{RanksOf};
 ghost use Rattle.call_graph.specs.Tables.{HasTaskBody};
 ghost use Rattle.sloth_source.specs.Texts.{SourcesErrorIs};
-ghost use Rattle.sim_induction.specs.Items.{AreLengths};
-ghost use Rattle.walk_sums.specs.Weights.{AreWeights};
-ghost use Rattle.run_counts.specs.Counts.{AreCountsBy};
-ghost use Rattle.bounds_text.specs.Bounds.{AreToldBounds};
 ghost use Rattle.bounds_text.specs.BoundsText.{AreTellable};
 ghost use Rattle.bounds_text.specs.LowerCounts.{heaviest_item};
-ghost use Rattle.bounds_text.specs.Latency.{IsHighestTask, heaviest_ending, longest_item, taken_counts, latency_parts};
-ghost use Rattle.bounds_text.specs.Latency.{latency_text, latency_line, lower_sum, tick_line, tick_lines, last_line};
-ghost use Rattle.bounds_text.specs.Latency.{AreAllLines, HasLatency, IsLatencyText};
+ghost use Rattle.bounds_text.specs.Latency.{IsHighestTask, heaviest_ending, longest_item, taken_counts, latency_text, latency_line, tick_line, tick_lines, last_line, AreAllLines, HasLatency, IsLatencyText};
+ghost use Rattle.run_counts.specs.Latency.{weighed_latency};
+ghost use Rattle.bounds_text.specs.Highest.{IsHighestAmong};
+ghost use Rattle.sim_induction.specs.Events.{enter_counts};
+ghost use Rattle.bounds_text.specs.Stretches.{heaviest_entry, heaviest_tick, running_counts};
 
-use crate::bound::{Bound, has_lower, walked_bounds};
-use crate::entry_latency::{highest_among, weighed_latency};
-use crate::lower_counts::{heaviest, heaviest_item, lower_counts};
-use crate::stretches::enter_counts;
-use crate::{bound_lines, running_counts};
+use crate::task_bound::{Bound, has_lower, walked_bounds};
+use crate::task_lines::{bound_lines, heaviest, heaviest_item, lower_counts};
 use bound_rules::{BodyWeights, weights_at};
 use call_graph::Ranks;
-use code_lengths::tick_path;
+use code_lengths::{entry_path, tick_path};
 use run_counts::weights_by;
 use sim_induction::{ItemLengths, lengths};
-use sloth_base::{App, BuildError, Config, List, Result};
+use sloth_base::{App, BuildError, Config, List, Result, TaskDecl};
 use sloth_source::read_checked;
+use stack_bounds::body_of;
 use std::alloc::Global;
 use task_verify::Verified;
 use text_pieces::pieces::Piece;
 use text_pieces::pieces::Piece::{Number, Word};
 use text_pieces::text;
 use walk_sums::{Sum, Walks, known_code};
-
-// The task of highest priority, if there is a task.
-fn highest_task(config: &Config) -> Option<usize>
-    requires { InRange config.now }
-    ensures { IsHighestTask config.now result }
-{
-    highest_among(config.tasks.items())
-}
 
 /// The heaviest item of all bodies with which its task may leave.
 pub fn heaviest_ending(weights: &[BodyWeights]) -> u32
@@ -72,44 +61,15 @@ fn taken_counts(some: bool, leaving: u32, counts: u32) -> u32
     if some { leaving.max(counts) } else { 0 }
 }
 
-/// The parts of a latency.
+/// The parts of a latency: the most counts of a stretch behind boot, of an item with which a task leaves, of the longest
+/// item, and of the task's entry; and whether some task is lower.
 #[derive(Clone, Copy)]
 pub struct Parts {
-    /// The most counts of a stretch behind boot.
     pub running: u32,
-    /// Those of an item with which a task leaves.
     pub leaving: u32,
-    /// The instructions of the longest item.
     pub longest: u32,
-    /// The counts of the task's entry.
     pub entry: u32,
-    /// Whether some task is lower.
     pub some: bool,
-}
-
-// Those of a task.
-fn latency_parts(
-    config: &Config,
-    app: &App,
-    lengths: &ItemLengths,
-    weights: &[BodyWeights],
-    task: usize,
-) -> Parts
-    requires there { task < length config.now.tasks }
-    requires bodies { (t : ℕ) → t < length config.now.tasks → HasTaskBody app.now.funcs t }
-    requires frames { All (λ func. func.frame_words ≤ frame_limit) app.now.funcs }
-    requires in_range { InRange config.now }
-    ensures { result ≡ latency_parts config.now app.now lengths.now.bodies weights.now task }
-{
-    let leaving = heaviest_ending(weights);
-    let tasks = config.tasks.items();
-    Parts {
-        running: running_counts(config, app, leaving),
-        leaving,
-        longest: longest_item(lengths),
-        entry: enter_counts(config, app, task),
-        some: has_lower(tasks, tasks[task].priority),
-    }
 }
 
 // The latency by what is told of lower tasks, for an arrival behind boot, ticks left out.
@@ -127,7 +87,6 @@ fn latency_text(alloc: Global, parts: &Parts, told: Sum) -> Result<Vec<u8>>
     }
 }
 
-// The line of the latency of a task.
 #[tactic(auto, unfolding(crate::specs::Latency::latency_line))]
 fn latency_line(
     alloc: Global,
@@ -144,20 +103,6 @@ fn latency_line(
     line.extend_from_slice(latency_text(alloc, parts, told)?.as_slice())?;
     line.extend_from_slice(b"\n")?;
     Ok(line)
-}
-
-// What is told of the tasks lower than this one.
-fn lower_sum(config: &Config, weights: &[BodyWeights], table: &[List<Sum>], task: usize) -> Sum
-    requires there { task < length config.now.tasks }
-    requires same { length table.now ≡ length config.now.tasks }
-    ensures { result ≡ lower_sum config.now weights.now table.now task }
-{
-    lower_counts(
-        config.tasks.items(),
-        heaviest(weights),
-        table[task].items(),
-        task,
-    )
 }
 
 // That of the task of highest priority, if there is a task.
@@ -178,14 +123,20 @@ fn last_line(
     ensures { IfOk result (λ line. line.items ≡
         last_line config.now app.now lengths.now.bodies weights.now table.now highest) }
 {
-    match highest {
-        None => Ok(Vec::new(alloc)),
-        Some(task) => {
-            let parts = latency_parts(config, app, lengths, weights, task);
-            let told = lower_sum(config, weights, table, task);
-            latency_line(alloc, config, &parts, told, task)
-        }
-    }
+    let Some(task) = highest else {
+        return Ok(Vec::new(alloc));
+    };
+    let tasks = config.tasks.items();
+    let leaving = heaviest_ending(weights);
+    let parts = Parts {
+        running: running_counts(config, app, leaving),
+        leaving,
+        longest: longest_item(lengths),
+        entry: enter_counts(config, app, task),
+        some: has_lower(tasks, tasks[task].priority),
+    };
+    let told = lower_counts(tasks, heaviest(weights), table[task].items(), task);
+    latency_line(alloc, config, &parts, told, task)
 }
 
 // The line of a counter: what a tick of it takes at most.
@@ -200,7 +151,6 @@ fn tick_line(alloc: Global, config: &Config, counter: usize) -> Result<Vec<u8>>
     text!(alloc; Word(b"tick "), Word(name), Word(b" "), Number(counts), Word(b"\n"))
 }
 
-// The lines of all counters.
 fn tick_lines(alloc: Global, config: &Config) -> Result<Vec<u8>>
     requires in_range { InRange config.now }
     ensures { IfOk result (λ text. text.items ≡ tick_lines config.now (length config.now.counters)) }
@@ -230,47 +180,33 @@ fn all_lines(
     ensures { IfOk result (λ text. AreAllLines config.now app.now bounds.now lengths.now.bodies weights.now table.now
         text.items) }
 {
-    let highest = highest_task(config);
+    let highest = highest_among(config.tasks.items());
     let mut text = bound_lines(alloc, config.tasks.items(), bounds)?;
     text.extend_from_slice(tick_lines(alloc, config)?.as_slice())?;
-    text.extend_from_slice(last_line(
-        alloc, config, app, lengths, weights, table, highest,
-    )?.as_slice())?;
+    let last = last_line(alloc, config, app, lengths, weights, table, highest)?;
+    text.extend_from_slice(last.as_slice())?;
     Ok(text)
 }
 
-// The lines of walked task code with these bounds, by the lengths and counts of its items.
-fn lines_by_counts(
-    walks: &Walks,
-    bounds: &[Bound],
-    lengths: &ItemLengths,
-    weights: &[BodyWeights],
-) -> Result<Vec<u8>>
-    requires bounds { AreToldBounds walks.now.config walks.now.app bounds.now }
-    requires tellable { AreTellable bounds.now }
-    requires lengths { AreLengths walks.now.app lengths.now.bodies }
-    requires counts { AreCountsBy walks.now.app lengths.now.bodies weights.now }
-    requires fit { AreWeights walks.now.app weights.now }
-    ensures { IfOk result (λ text. HasLatency walks.now.config walks.now.app text.items) }
-{
-    let config = walks.config();
-    let app = walks.app();
-    let table = walks.section_sums(weights)?;
-    all_lines(walks.alloc(), config, app, bounds, lengths, weights, &table)
-}
-
-// The lines of walked task code.
 fn walked_lines(walks: &Walks) -> Result<Vec<u8>>
     ensures { IfOk result (λ text. HasLatency walks.now.config walks.now.app text.items) }
 {
-    let app = walks.app();
+    let (config, app) = (walks.config(), walks.app());
     let bounds = walked_bounds(walks)?;
     let lengths = lengths(walks.alloc(), app)?;
     let weights = weights_by(walks.alloc(), app, &lengths)?;
-    lines_by_counts(walks, &bounds, &lengths, &weights)
+    let table = walks.section_sums(&weights)?;
+    all_lines(
+        walks.alloc(),
+        config,
+        app,
+        &bounds,
+        &lengths,
+        &weights,
+        &table,
+    )
 }
 
-// The lines of task code.
 fn checked_latency(alloc: Global, verified: &Verified, ranks: &Ranks) -> Result<Vec<u8>, BuildError>
     requires { RanksOf verified.now.app ranks.now }
     ensures text { IfOk result (λ text. HasLatency verified.now.config verified.now.app text.items) }
@@ -296,4 +232,83 @@ pub fn latency_lines(alloc: Global, oil: &[u8], src: &[u8]) -> Result<Vec<u8>, B
 {
     let checked = read_checked(alloc, oil, src)?;
     checked_latency(alloc, &checked.verified, &checked.ranks)
+}
+
+/// A task of highest priority, if there is a task.
+pub fn highest_among(tasks: &[TaskDecl]) -> Option<usize>
+    ensures some { IfSome result (IsHighestAmong tasks.now) }
+    ensures none { IfNone result (length tasks.now ≡ 0) }
+{
+    if tasks.is_empty() {
+        return None;
+    }
+    let mut highest = 0;
+    for task in 0..tasks.len() {
+        if tasks[highest].priority < tasks[task].priority {
+            highest = task;
+        }
+    }
+    Some(highest)
+}
+
+/// The latency: so many counts may pass from an arrival behind boot to the end of the entry, ticks left out. They are
+/// those of the stretch that is running, what lower tasks take, and the entry behind the longest item.
+pub fn weighed_latency(running: u32, lower: u32, longest: u32, entry: u32) -> u64
+    ensures { result ≡ weighed_latency running lower longest entry }
+{
+    u64::from(running) + u64::from(lower) + (u64::from(longest) + u64::from(entry))
+}
+
+/// The most counts of an entry of a task, that starts anew or goes on behind a wait.
+pub fn enter_counts(config: &Config, app: &App, task: usize) -> u32
+    requires there { task < length config.now.tasks }
+    requires body { HasTaskBody app.now.funcs task }
+    requires frames { All (λ func. func.frame_words ≤ frame_limit) app.now.funcs }
+    ensures is { result ≡ enter_counts config.now app.now false task }
+    ensures short { result ≤ 108 }
+{
+    let words = app.funcs.items()[body_of(app.funcs.items(), task)].frame_words;
+    let extended = config.tasks.items()[task].extended;
+    entry_path(extended, true, words).max(entry_path(extended, false, words))
+}
+
+/// That of any task.
+pub fn heaviest_entry(config: &Config, app: &App) -> u32
+    requires bodies { (t : ℕ) → t < length config.now.tasks → HasTaskBody app.now.funcs t }
+    requires frames { All (λ func. func.frame_words ≤ frame_limit) app.now.funcs }
+    ensures is { result ≡ heaviest_entry config.now app.now }
+    ensures short { result ≤ 108 }
+{
+    let mut most = 0;
+    for task in 0..config.tasks.items().len() {
+        most = enter_counts(config, app, task).max(most);
+    }
+    most
+}
+
+/// The most counts of a stretch behind boot: an entry, a tick, or an item with which a task may leave.
+pub fn running_counts(config: &Config, app: &App, leaving: u32) -> u32
+    requires bodies { (t : ℕ) → t < length config.now.tasks → HasTaskBody app.now.funcs t }
+    requires frames { All (λ func. func.frame_words ≤ frame_limit) app.now.funcs }
+    requires counters { length config.now.counters ≤ counter_limit }
+    requires alarms { length config.now.alarms ≤ alarm_limit }
+    ensures { result ≡ running_counts config.now app.now leaving }
+{
+    heaviest_entry(config, app)
+        .max(heaviest_tick(config))
+        .max(leaving)
+}
+
+/// The most counts of a tick of any counter, whose alarms all expire at once.
+pub fn heaviest_tick(config: &Config) -> u32
+    requires counters { length config.now.counters ≤ counter_limit }
+    requires alarms { length config.now.alarms ≤ alarm_limit }
+    ensures is { result ≡ heaviest_tick config.now }
+    ensures short { result ≤ 12 + 34 * length config.now.alarms }
+{
+    let mut most = 0;
+    for counter in 0..config.counters.items().len() {
+        most = tick_path(config, counter as u32).max(most);
+    }
+    most
 }

@@ -10,7 +10,7 @@ ghost use Rattle.sloth_base.specs.Options.{is_number};
 ghost use Rattle.call_graph.specs.Reached.{AreFew, TakesFew, IsOfFew, is_direct_taking, is_direct_pause, reaches_by, takes_by, pauses_by, used_by};
 
 use crate::lists::{pauses, taken};
-use sloth_base::least_fault::{fault_if, merge};
+use sloth_base::refusal::{fault_if, merge};
 use sloth_base::{Code, Func, Part, Refusal};
 
 /// A row that also has what the row of k has, where it has k.

@@ -8,17 +8,8 @@ ghost use Rattle.code_lengths.specs.LongestPaths.{going_path, leaving_path, serv
 
 use sloth_base::{Action, AlarmDecl, App, Config, Func, Service, TaskDecl, TaskId, block_service};
 
-/// The instructions of boot without a task.
-const BOOT_ALONE: u32 = 10;
-
-/// Those that start a counter, or a task that is not autostarted.
+// The instructions of boot that start a counter, or a task that is not autostarted.
 const LINE: u32 = 3;
-
-/// The instructions of a basic task's prologue, but for the words of its frame.
-const BASIC: u32 = 73;
-
-/// Those of an extended task's prologue.
-const EXTENDED: u32 = 108;
 
 /// How many instructions of boot start these tasks.
 fn lines_length(tasks: &[TaskDecl]) -> u32
@@ -39,7 +30,7 @@ pub fn boot_length(tasks: &[TaskDecl], counters: u32) -> u32
     ensures is { result ≡ boot_length tasks.now counters }
     ensures short { result ≤ 136 }
 {
-    BOOT_ALONE + lines_length(tasks) + LINE * counters
+    10 + lines_length(tasks) + LINE * counters
 }
 
 /// How many instructions a prologue has, of an extended task or of a basic one, whose body has so many frame words.
@@ -47,11 +38,7 @@ pub fn prologue_length(extended: bool, words: u32) -> u32
     requires { words ≤ frame_limit }
     ensures is { result ≡ prologue_length extended words }
 {
-    if extended {
-        EXTENDED + words
-    } else {
-        BASIC + words
-    }
+    if extended { 108 + words } else { 73 + words }
 }
 
 /// How many instructions the prologue of a task has.
@@ -116,10 +103,7 @@ pub fn block_length(number: usize) -> u32
     requires { number < block_count }
     ensures { result ≡ block_length number }
 {
-    match block_service(number) {
-        Some(service) => service_length(service),
-        None => 0,
-    }
+    block_service(number).map_or(0, |service| service_length(service))
 }
 
 /// The place of the task's body among these functions. There is one.
@@ -138,42 +122,25 @@ pub fn body_of(funcs: &[Func], task: TaskId) -> usize
 fn is_task_body(func: &Func, task: TaskId) -> bool
     ensures { IsTrue result ↔ (func.now.task ≡ Some task) }
 {
-    match func.task {
-        Some(owner) => owner.0 == task.0,
-        None => false,
-    }
+    matches!(func.task, Some(owner) if owner.0 == task.0)
 }
-
-/// The instructions of a tick without an alarm.
-const TICK_ALONE: u32 = 11;
-
-/// Those of an alarm that activates a task.
-const ACTIVATION: u32 = 13;
-
-/// Those of an alarm that sets events of a task, but for the look at it.
-const EVENT: u32 = 24;
-
-/// Those of the look at a task.
-const LOOK: u32 = 10;
 
 /// Whether an action sets events of this task.
 pub fn sets_events_of(task: TaskId, action: &Action) -> bool
     ensures { result ≡ sets_events_of task action.now }
 {
-    match *action {
-        Action::Activate(_) => false,
-        Action::Set(other, _) => other.0 == task.0,
-    }
+    matches!(*action, Action::Set(other, _) if other.0 == task.0)
 }
 
-/// Whether one of these alarms is the counter's and sets events of the task.
+// Whether one of these alarms is the counter's and sets events of the task.
 fn is_looked_at(counter: u32, task: TaskId, alarms: &[AlarmDecl]) -> bool
     ensures { result ≡ is_looked_at counter task alarms.now }
 {
     alarms.iter().any(|alarm| alarm.counter == counter && sets_events_of(task, &alarm.action))
 }
 
-/// How many instructions an alarm adds to the tick of a counter, with the look at its task: none where it is another's.
+// How many instructions an alarm adds to the tick of a counter: none where it is another's. The last one that sets
+// events of a task has ten more, the look at it.
 fn alarm_length(counter: u32, alarm: &AlarmDecl, later: &[AlarmDecl]) -> u32
     ensures is { result ≡ cond (alarm.now.counter == counter) (action_length counter alarm.now.action later.now) 0 }
     ensures short { result ≤ 34 }
@@ -182,14 +149,9 @@ fn alarm_length(counter: u32, alarm: &AlarmDecl, later: &[AlarmDecl]) -> u32
         return 0;
     }
     match alarm.action {
-        Action::Activate(_) => ACTIVATION,
-        Action::Set(task, _) => {
-            if is_looked_at(counter, task, later) {
-                EVENT
-            } else {
-                EVENT + LOOK
-            }
-        }
+        Action::Activate(_) => 13,
+        Action::Set(task, _) if is_looked_at(counter, task, later) => 24,
+        Action::Set(..) => 34,
     }
 }
 
@@ -199,15 +161,12 @@ pub fn tick_length(counter: u32, alarms: &[AlarmDecl]) -> u32
     ensures is { result ≡ tick_length counter alarms.now }
     ensures short { result ≤ 11 + 34 * length alarms.now }
 {
-    let mut total = TICK_ALONE;
+    let mut total = 11;
     for i in 0..alarms.len() {
         total += alarm_length(counter, &alarms[i], &alarms[i + 1..]);
     }
     total
 }
-
-/// The way back from Schedule.
-const WAY_BACK: u32 = 4;
 
 /// The code of a service behind which its caller goes on; 0 where it never does.
 pub fn going_path(service: Service) -> u32
@@ -224,19 +183,20 @@ pub fn leaving_path(service: Service, itself: bool) -> u32
 {
     match service {
         Service::TerminateTask => 49,
-        Service::ChainTask => { if itself { 54 } else { 60 } }
+        Service::ChainTask if itself => 54,
+        Service::ChainTask => 60,
         Service::WaitEvent => 86,
         _ => 0,
     }
 }
 
-/// What a service adds to its caller's counts where the caller goes on.
+/// What a service adds to its caller's counts where the caller goes on, with the way back from Schedule.
 pub fn served_path(service: Service) -> u32
     ensures is { result ≡ served_path service }
     ensures short { result ≤ 22 }
 {
     match service {
-        Service::Schedule => going_path(service) + WAY_BACK,
+        Service::Schedule => going_path(service) + 4,
         _ => going_path(service),
     }
 }

@@ -2,8 +2,8 @@
 use Rattle.std.specs.Prelude.{ℕ, ◌≡◌, ◌≤◌, List, [], ◌∷◌, map, codes, decimal, string_bytes, String, Option, Some, None}
 use Rattle.std.proofs.Common.{Global}
 use Rattle.sloth_base.specs.Limits.{count_limit}
-use Rattle.trace_text.specs.declared.summary.Form.{Form}
-use Rattle.trace_text.specs.declared.summary.Form.TheVariants as form
+use Rattle.trace_text.specs.declared.events.Form.{Form}
+use Rattle.trace_text.specs.declared.events.Form.TheVariants as form
 use Rattle.command_line.specs.Tools.{ToolUse, tool_words, IsToolUse}
 
 -- how an image is run: the form of the lines, the arrivals, and how many instructions

@@ -5,8 +5,8 @@ use Rattle.sloth_base.specs.declared.refusal.Part.TheVariants as part
 use Rattle.sloth_base.specs.declared.refusal.Code.{Code}
 use Rattle.sloth_base.specs.declared.refusal.Code.TheVariants as code
 use Rattle.sloth_base.specs.declared.refusal.Refusal.{Refusal}
-use Rattle.image_file.specs.declared.fault.ImageFault.{ImageFault}
-use Rattle.image_file.specs.declared.fault.ImageFault.TheVariants as fault
+use Rattle.image_file.specs.declared.read.ImageFault.{ImageFault}
+use Rattle.image_file.specs.declared.read.ImageFault.TheVariants as fault
 
 -- the name of a text in a refusal
 abbrev pub part_text : Part → List ℕ

@@ -1,7 +1,7 @@
 -- The texts of answers.
 use Rattle.std.specs.Prelude.{ℕ, List, ◌++◌, codes, decimal}
-use Rattle.image_file.specs.declared.fault.ElfFault.{ElfFault}
-use Rattle.image_file.specs.declared.fault.ElfFault.TheVariants as fault
+use Rattle.image_file.specs.declared.read.ElfFault.{ElfFault}
+use Rattle.image_file.specs.declared.read.ElfFault.TheVariants as fault
 use Rattle.command_line.specs.LastLine.{refusal_line, no_image_line}
 use Rattle.trace_text.specs.StopLine.{stopped_line}
 use Rattle.command_line.specs.declared.answer.ToolAnswer.{ToolAnswer}

@@ -2,10 +2,10 @@
 use Rattle.std.specs.Prelude.{ℕ}
 use Rattle.command_line.specs.declared.answer.ToolAnswer.{ToolAnswer}
 use Rattle.command_line.specs.declared.answer.ToolAnswer.TheVariants as tool_answer
-use Rattle.command_line.specs.declared.status.Explanation.{Explanation}
-use Rattle.command_line.specs.declared.status.Explanation.TheVariants as explanation
-use Rattle.command_line.specs.declared.status.Status.{Status}
-use Rattle.command_line.specs.declared.status.Status.TheVariants as status
+use Rattle.command_line.specs.declared.answer.Explanation.{Explanation}
+use Rattle.command_line.specs.declared.answer.Explanation.TheVariants as explanation
+use Rattle.command_line.specs.declared.answer.Status.{Status}
+use Rattle.command_line.specs.declared.answer.Status.TheVariants as status
 
 -- the exit status of a command that ended with an explanation
 abbrev pub explained_status : Explanation → ℕ

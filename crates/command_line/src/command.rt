@@ -1,6 +1,6 @@
 //! The words of a command.
 ghost use Rattle.std.specs.Prelude.{◌≡◌, ℕ, List, IfSome, IfNone, length};
-ghost use Rattle.trace_text.specs.declared.summary.Form.{Form as AnyForm};
+ghost use Rattle.trace_text.specs.declared.events.Form.{Form as AnyForm};
 ghost use Rattle.command_line.specs.Command.{Command, Execution, Executes, IsCommand, NoCommand, ToolAtMost, word_of};
 ghost use Rattle.command_line.specs.Command.{words_of};
 ghost use Rattle.command_line.specs.Words.{command_of, execution_of};
@@ -84,11 +84,8 @@ fn sample_command(words: &[String]) -> Option<CommandWords<'_>>
     if !is_same(words[0].as_str(), "sample") {
         return None;
     }
-    let seed = number(words[1].as_str())?;
-    Some(CommandWords::Sample {
-        seed,
-        img: words[2].as_str(),
-    })
+    let (seed, img) = (number(words[1].as_str())?, words[2].as_str());
+    Some(CommandWords::Sample { seed, img })
 }
 
 fn exec_words(words: &[String]) -> Option<ExecWords<'_>>
@@ -99,11 +96,9 @@ fn exec_words(words: &[String]) -> Option<ExecWords<'_>>
     if !is_same(words[0].as_str(), "exec") {
         return None;
     }
-    Some(ExecWords {
-        img: words[1].as_str(),
-        arr: words[2].as_str(),
-        n: instructions(words[3].as_str())?,
-    })
+    let (img, arr) = (words[1].as_str(), words[2].as_str());
+    let n = instructions(words[3].as_str())?;
+    Some(ExecWords { img, arr, n })
 }
 
 fn image_command(words: &[String]) -> Option<CommandWords<'_>>
@@ -112,12 +107,9 @@ fn image_command(words: &[String]) -> Option<CommandWords<'_>>
     ensures none { IfNone result (ToolAtMost (words_of words.now)) }
 {
     if is_same(words[0].as_str(), "build") {
-        return Some(CommandWords::Build(BuildWords {
-            oil: words[1].as_str(),
-            src: words[2].as_str(),
-            img: words[3].as_str(),
-            run: None,
-        }));
+        let (oil, src) = (words[1].as_str(), words[2].as_str());
+        let (img, run) = (words[3].as_str(), None);
+        return Some(CommandWords::Build(BuildWords { oil, src, img, run }));
     }
     Some(CommandWords::Exec(exec_words(words)?))
 }
@@ -127,17 +119,12 @@ fn run_command(words: &[String]) -> Option<CommandWords<'_>>
     ensures some { IfSome result (λ c. IsCommand (words_of words.now) (command_of c)) }
     ensures none { IfNone result (ToolAtMost (words_of words.now)) }
 {
-    let run = RunWords {
-        form: form(words[0].as_str())?,
-        arr: words[3].as_str(),
-        n: instructions(words[5].as_str())?,
-    };
-    Some(CommandWords::Build(BuildWords {
-        oil: words[1].as_str(),
-        src: words[2].as_str(),
-        img: words[4].as_str(),
-        run: Some(run),
-    }))
+    let form = form(words[0].as_str())?;
+    let n = instructions(words[5].as_str())?;
+    let (oil, src) = (words[1].as_str(), words[2].as_str());
+    let (arr, img) = (words[3].as_str(), words[4].as_str());
+    let run = Some(RunWords { form, arr, n });
+    Some(CommandWords::Build(BuildWords { oil, src, img, run }))
 }
 
 /// The command of these words, if they are one's.

@@ -7,13 +7,11 @@ pub mod answer;
 pub mod command;
 pub mod counts;
 pub mod last_line;
-pub mod status;
 pub mod tool;
 mod tool_words;
 
-pub use answer::{Outcome, ToolAnswer, TraceFault, told};
+pub use answer::{Explanation, Outcome, Status, ToolAnswer, TraceFault, told};
 pub use command::{BuildWords, CommandWords, ExecWords, RunWords};
 pub use counts::{Counts, Window, number_of, window_of};
 pub use last_line::{built_line, code_text, no_image_line, refusal_line};
-pub use status::{Explanation, Status};
 pub use tool::{Tool, file_words};

@@ -68,33 +68,14 @@ pub enum Tool {
     RunResponse,
 }
 
+macro_rules! tools {
+    ($kind:ident; $($tool:ident),+) => { [$($kind::$tool),+] };
+}
+
 // In the order of their words.
-const TOOLS: [Tool; 24] = [
-    Tool::Elf,
-    Tool::Unelf,
-    Tool::Infer,
-    Tool::At,
-    Tool::AtAll,
-    Tool::Losses,
-    Tool::Wave,
-    Tool::Picture,
-    Tool::Check,
-    Tool::Bounds,
-    Tool::Latency,
-    Tool::LowerCounts,
-    Tool::Map,
-    Tool::Shares,
-    Tool::Response,
-    Tool::Why,
-    Tool::TaskBound,
-    Tool::TaskResponse,
-    Tool::Symbols,
-    Tool::Orti,
-    Tool::Labels,
-    Tool::TraceReason,
-    Tool::Unused,
-    Tool::RunResponse,
-];
+const TOOLS: [Tool; 24] = tools!(Tool; Elf, Unelf, Infer, At, AtAll, Losses, Wave, Picture, Check,
+    Bounds, Latency, LowerCounts, Map, Shares, Response, Why, TaskBound, TaskResponse, Symbols,
+    Orti, Labels, TraceReason, Unused, RunResponse);
 
 // What is taken as a count of a run, as its length, and as a part of it.
 const COUNT: Option<Limit> = Some(Limit::One(COUNT_LIMIT - 1));

@@ -5,7 +5,7 @@ ghost use Rattle.std.specs.Option.{option_map};
 ghost use Rattle.command_line.specs.declared.counts.Counts.{Counts as AnyCounts};
 ghost use Rattle.command_line.specs.declared.counts.Limit.TheVariants as limit;
 ghost use Rattle.command_line.specs.declared.counts.Window.{Window as AnyWindow};
-ghost use Rattle.command_line.specs.Tools.{BeginWith, IsWindow, IsOutput, output_words, second_word, asks_second};
+ghost use Rattle.command_line.specs.Tools.{BeginWith, IsWindow, IsOutput, output_words, asks_second};
 ghost use Rattle.command_line.specs.Command.{IsCommand, NoTool, Uses, words_of};
 ghost use Rattle.command_line.specs.Words.{use_of};
 
@@ -46,29 +46,19 @@ fn behind_word<'a>(word: Option<&str>, words: &'a [String]) -> Option<&'a [Strin
     }
 }
 
-// The further word of the second of two tools of one word.
-fn second_word(word: &str) -> &'static str
-    ensures { result.now ≡ second_word word.now }
-{
-    if word == "why" { "labels" } else { "counts" }
-}
-
 // Whether the second of two tools of one word is asked for.
 fn asks_second(words: &[String]) -> bool
     ensures { result ≡ asks_second (words_of words.now) }
 {
     match words.get(3) {
-        Some(word) => word.as_str() == second_word(words[0].as_str()),
+        Some(word) if words[0].as_str() == "why" => word.as_str() == "labels",
+        Some(word) => word.as_str() == "counts",
         None => false,
     }
 }
 
 // Counts, if there are to be any, and the words behind them.
-#[derive(Clone, Copy)]
-struct CountsAndRest<'a> {
-    counts: Option<Counts>,
-    rest: &'a [String],
-}
+type Counted<'a> = (Option<Counts>, &'a [String]);
 
 fn window(from: &str, to: &str, most: u32, apart: u32) -> Option<Window>
     ensures some { IfSome result (λ w. (from.now ≡ decimal w.from) × (to.now ≡ decimal w.to) × IsWindow most apart w) }
@@ -83,22 +73,20 @@ fn window(from: &str, to: &str, most: u32, apart: u32) -> Option<Window>
     Some(Window { from, to })
 }
 
-fn number_and_rest(most: u32, words: &[String]) -> Option<CountsAndRest<'_>>
+fn number_and_rest(most: u32, words: &[String]) -> Option<Counted<'_>>
     ensures some { IfSome result
-        (λ c. BeginWith (Some (limit.One most)) (words_of words.now) c.counts (words_of c.rest.now)) }
+        (λ c. BeginWith (Some (limit.One most)) (words_of words.now) c.0 (words_of c.1.now)) }
     ensures none { IfNone result
         ((n : ℕ) (rest : List (List ℕ)) → n ≤ most → words_of words.now ≡ decimal n ∷ rest → ⊥) }
 {
     let first = words.first()?;
-    Some(CountsAndRest {
-        counts: Some(Counts::One(number_below(first, most)?)),
-        rest: &words[1..],
-    })
+    let count = number_below(first, most)?;
+    Some((Some(Counts::One(count)), &words[1..]))
 }
 
-fn window_and_rest(most: u32, apart: u32, words: &[String]) -> Option<CountsAndRest<'_>>
+fn window_and_rest(most: u32, apart: u32, words: &[String]) -> Option<Counted<'_>>
     ensures some { IfSome result
-        (λ c. BeginWith (Some (limit.Window most apart)) (words_of words.now) c.counts (words_of c.rest.now)) }
+        (λ c. BeginWith (Some (limit.Window most apart)) (words_of words.now) c.0 (words_of c.1.now)) }
     ensures none { IfNone result ((w : AnyWindow) (rest : List (List ℕ)) → IsWindow most apart w
         → words_of words.now ≡ decimal w.from ∷ decimal w.to ∷ rest → ⊥) }
 {
@@ -106,22 +94,16 @@ fn window_and_rest(most: u32, apart: u32, words: &[String]) -> Option<CountsAndR
         return None;
     }
     let window = window(words[0].as_str(), words[1].as_str(), most, apart)?;
-    Some(CountsAndRest {
-        counts: Some(Counts::Window(window)),
-        rest: &words[2..],
-    })
+    Some((Some(Counts::Window(window)), &words[2..]))
 }
 
-fn counts_and_rest(limit: Option<Limit>, words: &[String]) -> Option<CountsAndRest<'_>>
-    ensures some { IfSome result (λ c. BeginWith limit (words_of words.now) c.counts (words_of c.rest.now)) }
+fn counts_and_rest(limit: Option<Limit>, words: &[String]) -> Option<Counted<'_>>
+    ensures some { IfSome result (λ c. BeginWith limit (words_of words.now) c.0 (words_of c.1.now)) }
     ensures none { IfNone result
         ((c : Option AnyCounts) (rest : List (List ℕ)) → BeginWith limit (words_of words.now) c rest → ⊥) }
 {
     match limit {
-        None => Some(CountsAndRest {
-            counts: None,
-            rest: words,
-        }),
+        None => Some((None, words)),
         Some(Limit::One(most)) => number_and_rest(most, words),
         Some(Limit::Window { most, apart }) => window_and_rest(most, apart, words),
     }
@@ -132,14 +114,11 @@ fn output_word(writes: bool, words: &[String]) -> Option<Option<&str>>
         writes (option_map (λ name. name.now) o)) }
     ensures none { IfNone result ((o : Option (List ℕ)) → IsOutput writes o → words_of words.now ≡ output_words o → ⊥) }
 {
-    if writes {
-        return if words.len() == 1 {
-            Some(Some(words[0].as_str()))
-        } else {
-            None
-        };
+    match words.len() {
+        0 if !writes => Some(None),
+        1 if writes => Some(Some(words[0].as_str())),
+        _ => None,
     }
-    if words.is_empty() { Some(None) } else { None }
 }
 
 /// The tool of these words, if they are one's.
@@ -155,12 +134,12 @@ pub fn tool_command(words: &[String]) -> Option<ToolWords<'_>>
     }
     let rest = behind_word(row.further, words_behind(words, behind))?;
     let counted = counts_and_rest(row.limit, rest)?;
-    let closed = behind_word(tool.closing_word(), counted.rest)?;
+    let closed = behind_word(tool.closing_word(), counted.1)?;
     let output = output_word(row.writes, closed)?;
     Some(ToolWords {
         tool,
         inputs: &words[1..behind],
-        counts: counted.counts,
+        counts: counted.0,
         output,
     })
 }

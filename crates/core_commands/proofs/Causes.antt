@@ -18,8 +18,8 @@ use Rattle.command_line.specs.Command.{Command, Building, Builds, Executes, List
 use Rattle.sloth_base.specs.Limits.{file_limit}
 use Rattle.run_inputs.specs.Inputs.{AreArrivalsOf}
 use Rattle.command_line.specs.LastLine.{refusal_line, no_image_line}
-use Rattle.command_line.specs.declared.status.Status.{Status}
-use Rattle.command_line.specs.declared.status.Status.TheVariants as status
+use Rattle.command_line.specs.declared.answer.Status.{Status}
+use Rattle.command_line.specs.declared.answer.Status.TheVariants as status
 use Rattle.sim_induction.proofs.Coming.{arrivals_come}
 use Rattle.core_commands.specs.declared.failure.Failure.{Failure}
 use Rattle.core_commands.specs.declared.failure.Failure.TheVariants as failure

@@ -21,8 +21,8 @@ use Rattle.command_line.specs.Command.{Command, Building, Run, Builds, Uses, IsC
 use Rattle.command_line.specs.Tools.{ToolUse}
 use Rattle.run_inputs.specs.Inputs.{AreArrivalsOf}
 use Rattle.core_commands.specs.ImageFiles.{IsNoImage}
-use Rattle.command_line.specs.declared.status.Status.{Status}
-use Rattle.command_line.specs.declared.status.Status.TheVariants as status
+use Rattle.command_line.specs.declared.answer.Status.{Status}
+use Rattle.command_line.specs.declared.answer.Status.TheVariants as status
 use Rattle.core_commands.specs.Top.{World, FirstUnread, AreInputs, HoldsArrivals, AreThere, IsFailedRead, IsLongRead}
 use Rattle.core_commands.specs.CommandFiles.{arrivals_named, inputs_of, OverwritesInput, IsUsageCause}
 use Rattle.core_commands.specs.Top.{IsCommandDone, IsCommandRefused, IsCommandUnwritten, IsCommandStopped, done_text, IsRefused, IsAccepted, IsBuiltImage, IsRequired, IsPutAnswer, IsTextTaken, IsTextBrokenOff, IsFullAnswer, IsTopAnswer}

@@ -7,7 +7,7 @@ use Rattle.command_line.specs.Command.{Command}
 use Rattle.core_commands.specs.Failures.{IsCommandFailure, IsFailureEnd, IsPerformed}
 use Rattle.core_commands.specs.ToolTables.{ToolTable}
 use Rattle.core_commands.specs.Top.{World, world}
-use Rattle.command_line.specs.declared.status.Status.{Status}
+use Rattle.command_line.specs.declared.answer.Status.{Status}
 use Rattle.core_commands.specs.declared.failure.Failure.{Failure}
 use Rattle.core_commands.specs.declared.failure.Failure.TheVariants as failure
 

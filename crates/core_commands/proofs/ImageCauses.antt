@@ -21,8 +21,8 @@ use Rattle.core_commands.specs.Failures.{IsLoadFailure, IsLinesFailure, IsLineFa
 use Rattle.core_commands.proofs.CallFiles.{delivered-in_call, exec-inputs-in_call}
 use Rattle.core_commands.specs.declared.failure.Failure.{Failure}
 use Rattle.core_commands.specs.declared.failure.Failure.TheVariants as failure
-use Rattle.command_line.specs.declared.status.Status.{Status}
-use Rattle.command_line.specs.declared.status.Status.TheVariants as status
+use Rattle.command_line.specs.declared.answer.Status.{Status}
+use Rattle.command_line.specs.declared.answer.Status.TheVariants as status
 use Rattle.sloth_runner.specs.declared.runner.RunEnd.{RunEnd}
 use Rattle.sloth_runner.specs.declared.runner.RunEnd.TheVariants as ends
 use Rattle.core_commands.specs.ToolTables.{LacksTools}

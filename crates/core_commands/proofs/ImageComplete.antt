@@ -10,7 +10,7 @@ use Rattle.sloth_base.specs.Order.{IsLeast}
 use Rattle.sloth_io.specs.Store.{Files, Holds, IsMissing, IsTooLong}
 use Rattle.image_file.specs.ImageText.{ImageText}
 use Rattle.image_file.specs.Faults.{IsFirstImageFault}
-use Rattle.image_file.specs.declared.fault.ImageFault.{ImageFault}
+use Rattle.image_file.specs.declared.read.ImageFault.{ImageFault}
 use Rattle.image_file.proofs.Faulted.{fault_is_one, none_is_both}
 use Rattle.image_file.proofs.Images.{image-unique}
 use Rattle.trace_text.specs.ArrivalsText.{ArrivalsFault, arrivals_in}
@@ -35,8 +35,8 @@ use Rattle.core_commands.specs.CommandFiles.{inputs_of, HasOwnOutput, IsUsageCau
 use Rattle.core_commands.specs.Top.{IsCommandDone, IsCommandRefused, IsCommandUnwritten, IsCommandStopped, IsToolEnd, LacksTask}
 use Rattle.sloth_runner.specs.declared.runner.RunEnd.{RunEnd}
 use Rattle.sloth_runner.specs.declared.runner.RunEnd.TheVariants as ends
-use Rattle.command_line.specs.declared.status.Status.{Status}
-use Rattle.command_line.specs.declared.status.Status.TheVariants as status
+use Rattle.command_line.specs.declared.answer.Status.{Status}
+use Rattle.command_line.specs.declared.answer.Status.TheVariants as status
 use Rattle.command_line.proofs.Commands.{one-command}
 use Rattle.core_commands.proofs.OwnOutput.{keeps-inputs, no-usage}
 use Rattle.core_commands.proofs.Complete.{told, not-missing, not-long, counted-put, no-tool, never-usage, stands}

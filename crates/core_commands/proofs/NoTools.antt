@@ -6,8 +6,8 @@ use Rattle.sloth_io.specs.Sink.{Output}
 use Rattle.sloth_io.specs.Store.{Files, call_files}
 use Rattle.command_line.specs.Command.{Command, Builds, Executes, Lists, Samples, Uses, IsCommand, IsNoTool, NoTool}
 use Rattle.command_line.specs.declared.answer.ToolAnswer.TheVariants as tool_answer
-use Rattle.command_line.specs.declared.status.Status.{Status}
-use Rattle.command_line.specs.declared.status.Status.TheVariants as status
+use Rattle.command_line.specs.declared.answer.Status.{Status}
+use Rattle.command_line.specs.declared.answer.Status.TheVariants as status
 use Rattle.core_commands.specs.CommandFiles.{inputs_of, IsUsageCause, ReadsInOrder}
 use Rattle.core_commands.specs.NoTools.{NoOwnCommand}
 use Rattle.core_commands.specs.ToolTables.{LacksTools, ToolTable}

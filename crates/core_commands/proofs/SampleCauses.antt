@@ -18,7 +18,7 @@ use Rattle.sim_induction.proofs.Coming.{arrivals_come}
 use Rattle.core_commands.specs.Samples.{sample_oil, sample_source, sample_arrivals, sample_text}
 use Rattle.core_commands.specs.Top.{World, world, IsBuiltImage, IsWritten, IsSampled, IsTextTaken}
 use Rattle.core_commands.specs.Failures.{IsPerformFailure, IsSampleFailure, IsCommandFailure, IsPerformed}
-use Rattle.command_line.specs.declared.status.Status.TheVariants as status
+use Rattle.command_line.specs.declared.answer.Status.TheVariants as status
 use Rattle.core_commands.specs.declared.failure.Failure.{Failure}
 use Rattle.core_commands.specs.declared.failure.Failure.TheVariants as failure
 use Rattle.core_commands.specs.ToolTables.{LacksTools}

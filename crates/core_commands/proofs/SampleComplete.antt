@@ -15,8 +15,8 @@ use Rattle.core_commands.specs.Samples.{sample_oil, sample_source}
 use Rattle.core_commands.specs.SampleAnswers.{SampleWorks, HasSampleRefusedAnswer, HasSampledAnswer}
 use Rattle.core_commands.specs.Top.{World, IsFailedRead, IsLongRead, IsRequired, IsPutAnswer, IsTextTaken, IsFullAnswer, IsTopAnswer, IsRefusalAnswer, PutsWork}
 use Rattle.core_commands.specs.Top.{IsCommandDone, IsCommandRefused, IsCommandUnwritten, IsCommandStopped}
-use Rattle.command_line.specs.declared.status.Status.{Status}
-use Rattle.command_line.specs.declared.status.Status.TheVariants as status
+use Rattle.command_line.specs.declared.answer.Status.{Status}
+use Rattle.command_line.specs.declared.answer.Status.TheVariants as status
 use Rattle.command_line.proofs.Commands.{one-command}
 use Rattle.core_commands.proofs.Complete.{counted-put, stands, image-of, no-failed-write, no-tool, never-usage}
 use Rattle.core_commands.specs.ToolTables.{ToolTable}

@@ -10,8 +10,8 @@ use Rattle.sloth_io.specs.FileStore.{untold_files}
 use Rattle.core_commands.specs.CommandFiles.{ReadsInOrder}
 use Rattle.core_commands.proofs.Complete.{counted-put}
 use Rattle.core_commands.specs.Top.{world, IsRequired, IsPutAnswer, IsTopAnswer}
-use Rattle.command_line.specs.declared.status.Status.{Status}
-use Rattle.command_line.specs.declared.status.Status.TheVariants as status
+use Rattle.command_line.specs.declared.answer.Status.{Status}
+use Rattle.command_line.specs.declared.answer.Status.TheVariants as status
 use Rattle.core_commands.specs.ProgramRun.{IsProgramRun}
 use Rattle.core_commands.specs.ToolTables.{ToolTable}
 

@@ -1,7 +1,7 @@
 -- What the answers of tools require, for any table of them.
 use Rattle.std.proofs.Common.{◌≡◌, inr, ℕ, List, refl, sym, subst}
 use Rattle.std.specs.Prelude.{◌⊎◌}
-use Rattle.image_file.specs.declared.fault.ImageFault.{ImageFault}
+use Rattle.image_file.specs.declared.read.ImageFault.{ImageFault}
 use Rattle.sloth_io.specs.Store.{Files}
 use Rattle.command_line.specs.Command.{Command, Builds, Executes, Lists, Samples, Uses, IsCommand}
 use Rattle.command_line.specs.Tools.{ToolUse, IsToolUse}
@@ -10,7 +10,7 @@ use Rattle.command_line.specs.Lines.{tool_text}
 use Rattle.command_line.specs.Statuses.{tool_status}
 use Rattle.command_line.specs.declared.answer.ToolAnswer.{ToolAnswer}
 use Rattle.command_line.specs.declared.answer.ToolAnswer.TheVariants as tool_answer
-use Rattle.command_line.specs.declared.status.Status.{Status}
+use Rattle.command_line.specs.declared.answer.Status.{Status}
 use Rattle.core_commands.specs.ImageFiles.{IsNoImage}
 use Rattle.core_commands.specs.ToolTables.{ToolTable}
 use Rattle.core_commands.specs.Top.{FilesAfter, IsRequired, IsToolEnd}

@@ -12,9 +12,9 @@ use Rattle.sloth_base.specs.Order.{IsLeast}
 use Rattle.trace_text.specs.ArrivalsText.{ArrivalsFault}
 use Rattle.image_file.specs.ImageText.{ImageText}
 use Rattle.image_file.specs.Faults.{IsFirstImageFault}
-use Rattle.image_file.specs.declared.fault.ImageFault.{ImageFault}
-use Rattle.image_file.specs.declared.fault.FileError.{FileError}
-use Rattle.image_file.specs.declared.fault.FileError.TheVariants as image_error
+use Rattle.image_file.specs.declared.read.ImageFault.{ImageFault}
+use Rattle.image_file.specs.declared.read.FileError.{FileError}
+use Rattle.image_file.specs.declared.read.FileError.TheVariants as image_error
 use Rattle.sloth_source.specs.Texts.{FirstRefusal}
 use Rattle.command_line.specs.Command.{Command, Builds, Executes, Lists, Samples, Uses}
 use Rattle.command_line.specs.Lines.{tool_text}
@@ -27,8 +27,8 @@ use Rattle.core_commands.specs.Top.{World, FirstUnread, IsFailedRead, IsLongRead
 use Rattle.core_commands.specs.ToolTables.{ToolTable}
 use Rattle.run_inputs.specs.Inputs.{IsRefusal}
 use Rattle.core_commands.specs.Top.{IsCommandDone, IsCommandRefused, IsCommandUnwritten, IsCommandStopped, FilesAfter, IsToolEnd, IsUnwrittenOutput}
-use Rattle.command_line.specs.declared.status.Status.{Status}
-use Rattle.command_line.specs.declared.status.Status.TheVariants as status
+use Rattle.command_line.specs.declared.answer.Status.{Status}
+use Rattle.command_line.specs.declared.answer.Status.TheVariants as status
 use Rattle.core_commands.specs.declared.failure.Failure.{Failure}
 use Rattle.core_commands.specs.declared.failure.Failure.TheVariants as failure
 

@@ -6,7 +6,7 @@ use Rattle.sloth_base.specs.declared.refusal.Refusal.{Refusal}
 use Rattle.sloth_base.specs.Order.{IsLeast}
 use Rattle.image_file.specs.ImageText.{ImageText}
 use Rattle.image_file.specs.Faults.{IsFirstImageFault}
-use Rattle.image_file.specs.declared.fault.ImageFault.{ImageFault}
+use Rattle.image_file.specs.declared.read.ImageFault.{ImageFault}
 use Rattle.trace_text.specs.ArrivalsText.{ArrivalsFault}
 use Rattle.trace_text.specs.Listing.{listing}
 use Rattle.command_line.specs.Command.{Command, Execution, Executes, Lists, IsCommand, IsNoTool}
@@ -20,8 +20,8 @@ use Rattle.core_commands.specs.ToolTables.{ToolTable}
 use Rattle.core_commands.specs.Top.{World, IsTextTaken, IsFullAnswer, IsBrokenOff, IsRefusalAnswer, ReadsWork, PutsWork}
 use Rattle.sloth_runner.specs.declared.runner.RunEnd.{RunEnd}
 use Rattle.sloth_runner.specs.declared.runner.RunEnd.TheVariants as ends
-use Rattle.command_line.specs.declared.status.Status.{Status}
-use Rattle.command_line.specs.declared.status.Status.TheVariants as status
+use Rattle.command_line.specs.declared.answer.Status.{Status}
+use Rattle.command_line.specs.declared.answer.Status.TheVariants as status
 
 -- the answer where a run ends so
 abbrev pub end_status : RunEnd → Status

@@ -9,10 +9,10 @@ use Rattle.sloth_base.specs.Order.{IsLeast}
 use Rattle.sloth_io.specs.Store.{Files}
 use Rattle.image_file.specs.ImageText.{ImageText}
 use Rattle.image_file.specs.Faults.{IsFirstImageFault}
-use Rattle.image_file.specs.declared.fault.ImageFault.{ImageFault}
+use Rattle.image_file.specs.declared.read.ImageFault.{ImageFault}
 use Rattle.trace_text.specs.ArrivalsText.{ArrivalsFault}
 use Rattle.trace_text.specs.Listing.{listing}
-use Rattle.trace_text.specs.declared.summary.Form.TheVariants as form
+use Rattle.trace_text.specs.declared.events.Form.TheVariants as form
 use Rattle.command_line.specs.Command.{Command, Execution, Builds, Executes, Lists, Samples, Uses}
 use Rattle.command_line.specs.Tools.{file_names}
 use Rattle.run_inputs.specs.Inputs.{AreArrivalsOf}

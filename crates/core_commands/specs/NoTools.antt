@@ -3,7 +3,7 @@ use Rattle.std.specs.Prelude.{ℕ, ◌⊎◌, List}
 use Rattle.command_line.specs.Command.{Uses, IsCommand, NoCommand}
 use Rattle.command_line.specs.Tools.{ToolUse}
 use Rattle.core_commands.specs.Top.{World, IsUsageAnswer}
-use Rattle.command_line.specs.declared.status.Status.{Status}
+use Rattle.command_line.specs.declared.answer.Status.{Status}
 
 -- the words are those of a tool, or of no command at all
 abbrev pub NoOwnCommand : List (List ℕ) → Type 0

@@ -8,8 +8,8 @@ use Rattle.core_commands.specs.CommandFiles.{ReadsInOrder}
 use Rattle.core_commands.specs.ToolTables.{ToolTable}
 use Rattle.core_commands.specs.Top.{IsRequired}
 use Rattle.command_line.specs.Statuses.{exit_status}
-use Rattle.command_line.specs.declared.status.Status.{Status}
-use Rattle.command_line.specs.declared.status.Status.TheVariants as status
+use Rattle.command_line.specs.declared.answer.Status.{Status}
+use Rattle.command_line.specs.declared.answer.Status.TheVariants as status
 
 -- With these words, where the files show these reads, writes and counts of failures at the end, the program with these tools gave `printed` to standard
 -- output, of whose calls `faults` failed, and answered so: an answer is required by exactly what was read, with this text and these writes. Either this

@@ -10,8 +10,8 @@ use Rattle.command_line.specs.Command.{Samples, IsCommand}
 use Rattle.core_commands.specs.Samples.{sample_oil, sample_source, sample_arrivals, sample_text}
 use Rattle.core_commands.specs.ToolTables.{ToolTable}
 use Rattle.core_commands.specs.Top.{World, IsBuiltImage, IsFullAnswer, IsRefusalAnswer, WritesWork, PutsWork}
-use Rattle.command_line.specs.declared.status.Status.{Status}
-use Rattle.command_line.specs.declared.status.Status.TheVariants as status
+use Rattle.command_line.specs.declared.answer.Status.{Status}
+use Rattle.command_line.specs.declared.answer.Status.TheVariants as status
 
 -- No write and no put failed: their counts stay, or the store and the sink tell before that what they are asked for will be done.
 pub record SampleWorks (seed : ℕ) (img : List ℕ) (config : Config) (app : App) (old new : World) : Type 0 where

@@ -24,12 +24,12 @@ use Rattle.sloth_io.specs.Store.{Files, Holds, IsFileWritten, KeepsOthers, IsMis
 use Rattle.sloth_io.specs.Slots.{is_space_for}
 use Rattle.sloth_build.specs.ImageOf.{HasPlannedMap}
 use Rattle.image_file.specs.ImageText.{image_bytes}
-use Rattle.image_file.specs.declared.fault.ImageFault.{ImageFault}
-use Rattle.rv32_instr.specs.declared.effect.Stop.{Stop}
+use Rattle.image_file.specs.declared.read.ImageFault.{ImageFault}
+use Rattle.rv32_instr.specs.declared.encoding.Stop.{Stop}
 use Rattle.sloth_source.specs.Texts.{AreAccepted, FirstRefusal}
 use Rattle.command_line.specs.Command.{Command, Building, Run, Builds, Executes, Lists, Samples, Uses, IsCommand, NoCommand}
 use Rattle.command_line.specs.Tools.{ToolUse}
-use Rattle.image_file.specs.declared.fault.ElfFault.{ElfFault}
+use Rattle.image_file.specs.declared.read.ElfFault.{ElfFault}
 use Rattle.command_line.specs.Lines.{no_elf_line, bad_trace_line, tool_text}
 use Rattle.command_line.specs.declared.answer.ToolAnswer.{ToolAnswer}
 use Rattle.command_line.specs.declared.answer.ToolAnswer.TheVariants as tool_answer
@@ -46,8 +46,8 @@ use Rattle.command_line.specs.LastLine.{refusal_line, built_line, no_image_line}
 use Rattle.sloth_runner.specs.Runner.{run_text, run_end}
 use Rattle.core_commands.specs.Samples.{sample_oil, sample_source, sample_arrivals, sample_text}
 use Rattle.sloth_runner.specs.declared.runner.RunEnd.TheVariants as ends
-use Rattle.command_line.specs.declared.status.Status.{Status}
-use Rattle.command_line.specs.declared.status.Status.TheVariants as status
+use Rattle.command_line.specs.declared.answer.Status.{Status}
+use Rattle.command_line.specs.declared.answer.Status.TheVariants as status
 
 -- what the store and the sink show at one moment
 pub record World : Type 0 where

@@ -17,7 +17,7 @@ ghost use Rattle.core_commands.specs.Top.{world, IsTextTaken};
 ghost use Rattle.core_commands.specs.CommandFiles.{AreFirstDelivered, inputs_of};
 ghost use Rattle.core_commands.specs.Failures.{IsReadFailure, IsLoadFailure, IsLinesFailure, IsLineFailure};
 ghost use Rattle.core_commands.specs.Failures.{IsCommandFailure, IsPerformed};
-ghost use Rattle.command_line.specs.declared.status.Status.TheVariants.{Done as DoneStatus};
+ghost use Rattle.command_line.specs.declared.answer.Status.TheVariants.{Done as DoneStatus};
 ghost use Rattle.trace_text.specs.Listing.{listing, line_at};
 ghost use Rattle.core_commands.specs.ToolTables.{LacksTools};
 

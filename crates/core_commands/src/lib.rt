@@ -17,14 +17,10 @@ pub mod build_command;
 pub mod failure;
 pub mod image_commands;
 pub mod laws;
-pub mod own_output;
-pub mod program;
 pub mod sample_command;
 pub mod sample_laws;
 pub mod top;
 
 pub use build_command::fetch;
 pub use failure::{Failure, close, finish, say};
-pub use own_output::is_tool_input;
-pub use program::{run_program, words_given};
-pub use top::core_top;
+pub use top::{core_top, is_tool_input, run_program, words_given};

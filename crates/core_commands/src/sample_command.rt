@@ -13,7 +13,7 @@ ghost use Rattle.core_commands.specs.CommandFiles.{inputs_of, AreFirstDelivered}
 ghost use Rattle.core_commands.specs.Samples.{sample_oil, sample_source, sample_arrivals, sample_text};
 ghost use Rattle.core_commands.specs.Top.{world, IsBuiltImage, IsWritten, IsTextTaken};
 ghost use Rattle.core_commands.specs.Failures.{IsSampleFailure, IsPerformFailure, IsCommandFailure, IsPerformed};
-ghost use Rattle.command_line.specs.declared.status.Status.TheVariants.{Done as DoneStatus};
+ghost use Rattle.command_line.specs.declared.answer.Status.TheVariants.{Done as DoneStatus};
 ghost use Rattle.core_commands.specs.ToolTables.{LacksTools};
 
 use crate::Failure;

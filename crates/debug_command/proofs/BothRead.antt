@@ -6,8 +6,8 @@ use Rattle.sloth_io.specs.Counts.{Rose}
 use Rattle.sloth_io.specs.Store.{AreDelivered, Files, IsMissing, IsTooLong, KeepsFiles}
 use Rattle.debug_command.specs.Inputs.{AreRead, AreUnread, IsFile, IsUnreadFile}
 use Rattle.debug_command.specs.Words.{Debugging}
-use Rattle.debug_command.specs.declared.inputs.Cause.{Cause}
-use Rattle.debug_command.specs.declared.inputs.Cause.TheVariants as cause
+use Rattle.debug_command.specs.declared.command.Cause.{Cause}
+use Rattle.debug_command.specs.declared.command.Cause.TheVariants as cause
 
 rose-behind : (a b c : ℕ) → a ≤ b → Rose b c → Rose a c
 rose-behind a b c le rose = omega (arith, le, rose)

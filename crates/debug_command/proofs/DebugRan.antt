@@ -4,11 +4,11 @@ use Rattle.sloth_io.specs.Buffered.{IsPrefix}
 use Rattle.sloth_io.specs.FileStore.{untold_files}
 use Rattle.sloth_io.specs.Sink.{Output}
 use Rattle.sloth_io.specs.Store.{Files}
-use Rattle.command_line.specs.declared.status.Status.{Status}
+use Rattle.command_line.specs.declared.answer.Status.{Status}
 use Rattle.debug_command.specs.DebugAnswers.{Heard, IsUnserved, IsTextsAnswer, IsDebugAnswer}
 use Rattle.debug_command.specs.DebugRun.{IsDebugRun, put_output}
 use Rattle.debug_command.specs.Words.{Debugging}
-use Rattle.debug_command.specs.declared.inputs.Cause.{Cause}
+use Rattle.debug_command.specs.declared.command.Cause.{Cause}
 
 -- an answer of which another thing tells that what was put was handed on
 unserved-by : (P Q : Type 0) → (P → Q) → (why : Cause) (bytes : Heard) (before now : Output) (answer : Status) → IsUnserved why bytes before now P answer → IsUnserved why bytes before now Q answer

@@ -10,8 +10,8 @@ use Rattle.debug_session.specs.Transcripts.{Act}
 use Rattle.debug_session.proofs.Transcribed.{none_yet}
 use Rattle.debug_session.specs.declared.serving.SessionFault.{SessionFault}
 use Rattle.debug_session.specs.declared.serving.SessionFault.TheVariants as faults
-use Rattle.command_line.specs.declared.status.Status.{Status}
-use Rattle.command_line.specs.declared.status.Status.TheVariants as status
+use Rattle.command_line.specs.declared.answer.Status.{Status}
+use Rattle.command_line.specs.declared.answer.Status.TheVariants as status
 use Rattle.debug_command.specs.DebugAnswers.{Heard, IsCloseAnswer, IsLineAnswer, IsSessionEnd, end_status}
 
 -- what holds anyway holds of an error

@@ -12,12 +12,12 @@ use Rattle.debug_session.specs.Serving.{IsBrokenOff, IsAllAnswered}
 use Rattle.debug_session.specs.Transcripts.{Act}
 use Rattle.debug_session.specs.declared.serving.SessionFault.{SessionFault}
 use Rattle.debug_session.specs.declared.serving.SessionFault.TheVariants as faults
-use Rattle.command_line.specs.declared.status.Status.{Status}
-use Rattle.command_line.specs.declared.status.Status.TheVariants as status
+use Rattle.command_line.specs.declared.answer.Status.{Status}
+use Rattle.command_line.specs.declared.answer.Status.TheVariants as status
 use Rattle.debug_command.specs.Inputs.{AreRead, AreFirstRead, AreUnread, AreMeant, AreNotMeant}
 use Rattle.debug_command.specs.Words.{Debugging}
-use Rattle.debug_command.specs.declared.inputs.Cause.{Cause}
-use Rattle.debug_command.specs.declared.inputs.Cause.TheVariants as cause
+use Rattle.debug_command.specs.declared.command.Cause.{Cause}
+use Rattle.debug_command.specs.declared.command.Cause.TheVariants as cause
 
 -- ---- what came
 

@@ -7,7 +7,7 @@ use Rattle.sloth_io.specs.Store.{Files}
 use Rattle.debug_session.specs.Transcripts.{Act}
 use Rattle.debug_command.specs.DebugAnswers.{Heard, IsDebugAnswer, heard}
 use Rattle.debug_command.specs.Words.{Debugging}
-use Rattle.command_line.specs.declared.status.Status.{Status}
+use Rattle.command_line.specs.declared.answer.Status.{Status}
 
 -- standard output to which this was put, with so many failed calls
 abbrev pub put_output : List ℕ → ℕ → Output

@@ -12,13 +12,13 @@ use Rattle.sloth_io.specs.declared.store.StoreFault.{StoreFault}
 use Rattle.sloth_io.specs.declared.store.StoreFault.TheVariants as fault
 use Rattle.image_file.specs.ImageText.{ImageText}
 use Rattle.image_file.specs.Faults.{IsFirstImageFault}
-use Rattle.image_file.specs.declared.fault.ImageFault.{ImageFault}
-use Rattle.image_file.specs.declared.fault.FileError.{FileError}
-use Rattle.image_file.specs.declared.fault.FileError.TheVariants as image_error
+use Rattle.image_file.specs.declared.read.ImageFault.{ImageFault}
+use Rattle.image_file.specs.declared.read.FileError.{FileError}
+use Rattle.image_file.specs.declared.read.FileError.TheVariants as image_error
 use Rattle.trace_text.specs.ArrivalsText.{ArrivalsFault, arrivals_in}
 use Rattle.debug_command.specs.Words.{Debugging}
-use Rattle.debug_command.specs.declared.inputs.Cause.{Cause}
-use Rattle.debug_command.specs.declared.inputs.Cause.TheVariants as cause
+use Rattle.debug_command.specs.declared.command.Cause.{Cause}
+use Rattle.debug_command.specs.declared.command.Cause.TheVariants as cause
 
 -- a file of at most 4 MiB has these bytes, where the store tells its files
 pub record IsFile (files : Files) (name bytes : List ℕ) : Type 0 where

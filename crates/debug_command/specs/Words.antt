@@ -1,6 +1,6 @@
 -- The words of the command.
 use Rattle.std.specs.Prelude.{◌≡◌, ℕ, List, [], ◌∷◌, codes}
-use Rattle.debug_command.specs.declared.words.DebugWords.{DebugWords}
+use Rattle.debug_command.specs.declared.command.DebugWords.{DebugWords}
 
 -- the names of the image file and of the arrivals
 pub record Debugging : Type 0 where

@@ -3,8 +3,5 @@
 #![tactic(auto)]
 
 pub mod command;
-pub mod inputs;
-pub mod words;
 
-pub use command::debug;
-pub use words::{DebugWords, debug_over, debug_words};
+pub use command::{DebugWords, debug, debug_over, debug_words};

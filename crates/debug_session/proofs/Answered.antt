@@ -5,7 +5,7 @@ use Rattle.sloth_io.specs.Sink.{GainsPart, Output, output_with}
 use Rattle.sloth_io.proofs.Gains.{gains-nil, part-behind}
 use Rattle.debug_session.specs.Input.{Coming}
 use Rattle.debug_session.specs.Reading.{Reading, fresh}
-use Rattle.debug_session.specs.declared.reading.Event.{Event}
+use Rattle.debug_session.specs.declared.session.Event.{Event}
 use Rattle.debug_ways.specs.Runs.{Run}
 use Rattle.debug_session.specs.declared.serving.SessionFault.TheVariants as faults
 use Rattle.debug_session.specs.Sessions.{Session, first_session}

@@ -5,10 +5,10 @@ use Rattle.sloth_io.proofs.Gains.{gains-gains, gains-nil, part-behind}
 use Rattle.debug_session.specs.Input.{Coming, Gives, Ends}
 use Rattle.debug_session.specs.Messages.{Message, Packet, Wrong, Again, Interrupt, messages, message_of}
 use Rattle.debug_session.specs.Reading.{Reading, fresh, reading_after, reading_at, event_after, event_at}
-use Rattle.debug_session.specs.declared.reading.Place.{Place}
-use Rattle.debug_session.specs.declared.reading.Place.TheVariants as places
-use Rattle.debug_session.specs.declared.reading.Event.{Event}
-use Rattle.debug_session.specs.declared.reading.Event.TheVariants as events
+use Rattle.debug_session.specs.declared.session.Place.{Place}
+use Rattle.debug_session.specs.declared.session.Place.TheVariants as places
+use Rattle.debug_session.specs.declared.session.Event.{Event}
+use Rattle.debug_session.specs.declared.session.Event.TheVariants as events
 use Rattle.debug_ways.specs.Runs.{Run}
 use Rattle.debug_session.specs.declared.serving.SessionFault.TheVariants as faults
 use Rattle.debug_session.specs.Sessions.{Session, first_session, behind_message, answer, answers}

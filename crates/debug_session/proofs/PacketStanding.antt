@@ -3,9 +3,9 @@ use Rattle.std.proofs.Common.{◌≡◌, ℕ, ◌+◌, ◌%◌, ◌<◌, ◌≤�
 use Rattle.std.proofs.Math.Nat.{mod-add-mod}
 use Rattle.std.specs.Prelude.{not, ◌&&◌, ◌==◌, if◌then◌else◌, nat_le}
 use Rattle.std.proofs.lemmas.Bool.{eqb-true, leb-true, leb-false}
-use Rattle.debug_session.specs.declared.reading.Place.{Place}
-use Rattle.debug_session.specs.declared.reading.Place.TheVariants as places
-use Rattle.debug_session.specs.declared.reading.Event.TheVariants as events
+use Rattle.debug_session.specs.declared.session.Place.{Place}
+use Rattle.debug_session.specs.declared.session.Place.TheVariants as places
+use Rattle.debug_session.specs.declared.session.Event.TheVariants as events
 use Rattle.debug_session.specs.Framing.{checksum}
 use Rattle.debug_session.specs.Messages.{EndSo, is_inside}
 use Rattle.debug_session.specs.Reading.{Reading, fresh, opened, data_with, after_inside, reading_at, reading_after, reading_of, is_told, event_at, event_after}

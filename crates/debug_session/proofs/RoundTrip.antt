@@ -3,7 +3,7 @@ use Rattle.std.proofs.Common.{◌≡◌, ℕ, suc, ◌+◌, ◌/◌, ◌%◌, �
 use Rattle.std.proofs.Math.Nat.{mod-add-mod}
 use Rattle.std.specs.Prelude.{not, ◌&&◌, ◌==◌}
 use Rattle.std.proofs.lemmas.Bool.{le-leb, not-true, and_parts}
-use Rattle.debug_session.specs.declared.reading.Place.TheVariants as places
+use Rattle.debug_session.specs.declared.session.Place.TheVariants as places
 use Rattle.debug_session.specs.Escapes.{escaped, is_unmarked}
 use Rattle.debug_session.specs.Framing.{checksum, packet_of, all_framed}
 use Rattle.debug_session.specs.Hex.{hex_digit}

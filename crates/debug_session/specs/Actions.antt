@@ -5,8 +5,8 @@ use Rattle.debug_ways.specs.declared.standing.Step.{Step}
 use Rattle.debug_session.specs.declared.replies.Request.{Request}
 use Rattle.debug_session.specs.declared.replies.Request.TheVariants as asks
 use Rattle.debug_session.specs.declared.replies.Window.{Window}
-use Rattle.debug_session.specs.declared.actions.Action.{Action}
-use Rattle.debug_session.specs.declared.actions.Action.TheVariants as actions
+use Rattle.debug_session.specs.declared.words.Action.{Action}
+use Rattle.debug_session.specs.declared.words.Action.TheVariants as actions
 use Rattle.debug_session.specs.Words.{front, has, behind, told_window, thread_number}
 
 -- a range is gone through by a step

@@ -3,8 +3,8 @@ use Rattle.std.specs.Prelude.{◌≡◌, ℕ, List, [], ◌∷◌, ◌++◌, ◌
 use Rattle.debug_session.specs.Escapes.{escaped}
 use Rattle.debug_session.specs.Framing.{checksum}
 use Rattle.debug_session.specs.Reading.{Reading, reading_after, event_after, is_told}
-use Rattle.debug_session.specs.declared.reading.Event.{Event}
-use Rattle.debug_session.specs.declared.reading.Event.TheVariants as events
+use Rattle.debug_session.specs.declared.session.Event.{Event}
+use Rattle.debug_session.specs.declared.session.Event.TheVariants as events
 
 -- a packet with what stands in it, one whose sum is wrong, a demand for the last reply, an interrupt
 pub data Message : Type 0 where

@@ -1,10 +1,10 @@
 -- What each byte completes: `$`, data, `#`, two digits of the sum of the data. A `$` in the data begins a packet anew.
 use Rattle.std.specs.Prelude.{ℕ, ◌+◌, ◌*◌, ◌%◌, ◌==◌, List, [], ◌∷◌, ◌++◌, length, nat_le, Bool, if◌then◌else◌}
 use Rattle.debug_session.specs.Hex.{digit_value}
-use Rattle.debug_session.specs.declared.reading.Place.{Place}
-use Rattle.debug_session.specs.declared.reading.Place.TheVariants as places
-use Rattle.debug_session.specs.declared.reading.Event.{Event}
-use Rattle.debug_session.specs.declared.reading.Event.TheVariants as events
+use Rattle.debug_session.specs.declared.session.Place.{Place}
+use Rattle.debug_session.specs.declared.session.Place.TheVariants as places
+use Rattle.debug_session.specs.declared.session.Event.{Event}
+use Rattle.debug_session.specs.declared.session.Event.TheVariants as events
 
 -- where reading stands, the data so far, of which 16,385 bytes are kept at most, and the sum of all of it
 pub record Reading : Type 0 where

@@ -2,8 +2,8 @@
 use Rattle.std.specs.Prelude.{ℕ, zero, suc, ◌+◌, ◌-◌, ◌/◌, ◌%◌, ◌==◌, ◌&&◌, nat_lt, not, List, [], ◌∷◌, ◌++◌, length, get_or, Option, None, Some, Bool, true, false, is_none, if◌then◌else◌, codes, decimal}
 use Rattle.osek_scheduler.specs.declared.state.TaskState.{TaskState}
 use Rattle.osek_scheduler.specs.declared.state.TaskState.TheVariants as mode
-use Rattle.rv32_instr.specs.declared.effect.Stop.{Stop}
-use Rattle.rv32_instr.specs.declared.effect.Stop.TheVariants as stops
+use Rattle.rv32_instr.specs.declared.encoding.Stop.{Stop}
+use Rattle.rv32_instr.specs.declared.encoding.Stop.TheVariants as stops
 use Rattle.trace_text.specs.StopLine.{stopped_line}
 use Rattle.debug_session.specs.Hex.{hex_of}
 use Rattle.debug_ways.specs.Around.{events_text}
@@ -17,11 +17,11 @@ use Rattle.debug_ways.specs.declared.points.Point.{Point}
 use Rattle.debug_session.specs.declared.replies.Request.{Request}
 use Rattle.debug_session.specs.declared.replies.Request.TheVariants as asks
 use Rattle.debug_session.specs.declared.replies.Window.{Window}
-use Rattle.debug_ways.specs.declared.shown.Seen.{Seen}
-use Rattle.debug_ways.specs.declared.shown.View.{View}
+use Rattle.debug_ways.specs.declared.standing.Seen.{Seen}
+use Rattle.debug_ways.specs.declared.standing.View.{View}
 use Rattle.debug_ways.specs.declared.standing.Standing.{Standing}
-use Rattle.debug_ways.specs.declared.wanted.Cause.{Cause}
-use Rattle.debug_ways.specs.declared.wanted.Cause.TheVariants as causes
+use Rattle.debug_ways.specs.declared.standing.Cause.{Cause}
+use Rattle.debug_ways.specs.declared.standing.Cause.TheVariants as causes
 
 -- ---- stops
 

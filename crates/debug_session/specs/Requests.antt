@@ -6,9 +6,9 @@ use Rattle.debug_ways.specs.declared.points.Point.{Point}
 use Rattle.debug_session.specs.declared.replies.Request.{Request}
 use Rattle.debug_session.specs.declared.replies.Request.TheVariants as asks
 use Rattle.debug_session.specs.declared.replies.Window.{Window}
-use Rattle.debug_session.specs.declared.requests.Form.{Form}
-use Rattle.debug_session.specs.declared.requests.Form.TheVariants as forms
-use Rattle.debug_session.specs.declared.requests.Row.{Row}
+use Rattle.debug_session.specs.declared.commands.Form.{Form}
+use Rattle.debug_session.specs.declared.commands.Form.TheVariants as forms
+use Rattle.debug_session.specs.declared.commands.Row.{Row}
 use Rattle.debug_session.specs.Actions.{is_signal, actions_request}
 use Rattle.debug_session.specs.Words.{front, behind, told_window, thread_number, first_word, further_words, told_count}
 

@@ -4,8 +4,8 @@ use Rattle.sloth_io.specs.Sink.{Output, output_with, GainsPart}
 use Rattle.debug_session.specs.Input.{Coming}
 use Rattle.debug_session.specs.Messages.{Packet, Wrong, Again, Interrupt, messages}
 use Rattle.debug_session.specs.Reading.{Reading, fresh}
-use Rattle.debug_session.specs.declared.reading.Event.{Event}
-use Rattle.debug_session.specs.declared.reading.Event.TheVariants as events
+use Rattle.debug_session.specs.declared.session.Event.{Event}
+use Rattle.debug_session.specs.declared.session.Event.TheVariants as events
 use Rattle.debug_ways.specs.Runs.{Run}
 use Rattle.debug_session.specs.declared.serving.SessionFault.{SessionFault}
 use Rattle.debug_session.specs.declared.serving.SessionFault.TheVariants as faults

@@ -10,7 +10,7 @@ ghost use Rattle.debug_session.specs.Sessions.{Session, answer, answers, HasRepl
 ghost use Rattle.debug_session.specs.Escapes.{escaped, unescaped, is_unmarked};
 ghost use Rattle.debug_session.specs.Framing.{all_framed};
 ghost use Rattle.debug_session.specs.Hex.{hex_of, bytes_of_hex};
-ghost use Rattle.debug_session.specs.declared.reading.Event.TheVariants as events;
+ghost use Rattle.debug_session.specs.declared.session.Event.TheVariants as events;
 
 /// What is written for a packet is one reply behind what acknowledges it, but for `k`, which has none.
 #[tactic(auto, using(crate::proofs::OneReply::one_reply))]

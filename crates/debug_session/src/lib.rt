@@ -3,26 +3,18 @@
 //! each reply on before it asks for the next byte (`Transcript`, `specs/Transcripts`). In words: `laws`.
 #![tactic(auto)]
 
-mod actions;
 pub mod byte_reader;
-mod commands;
+pub mod commands;
 pub mod hex;
 pub mod input;
 pub mod laws;
-pub mod link;
-mod looks;
 pub mod notes;
-pub mod reading;
 pub mod replies;
-pub mod requests;
 pub mod serving;
 pub mod session;
-mod texts;
 pub mod threads;
-pub mod transcript;
 mod words;
 
 pub use byte_reader::ByteReader;
 pub use input::{Input, MemInput};
-pub use serving::{SessionFault, serve};
-pub use transcript::Transcript;
+pub use serving::{SessionFault, Transcript, serve};

@@ -1,20 +1,20 @@
 //! Replies to requests: what a run shows is looked at here, and told by what is looked at. What a packet asks.
-ghost use Rattle.std.specs.Prelude.{◌≡◌, ◌≤◌, ◌++◌, OnOk, length};
+//! What is looked at of a run for a reply: registers and memory.
+ghost use Rattle.std.specs.Prelude.{◌≡◌, ◌≤◌, ◌++◌, OnOk, length, ◌+◌};
 ghost use Rattle.sloth_base.specs.Limits.{task_limit};
 ghost use Rattle.debug_ways.specs.Cursor.{cursor_run};
-ghost use Rattle.debug_session.specs.Replies.{reply_text, has_reply, fixed_text, plain_text, place_text};
+ghost use Rattle.debug_session.specs.Replies.{reply_text, has_reply, fixed_text, plain_text, registers_text, memory_byte, bytes_from, memory_text};
 ghost use Rattle.debug_session.specs.Description.{description};
 
 use crate::hex::push_hex;
-use crate::looks::{push_memory, push_registers};
-use crate::texts::{push, push_number, push_register, push_stop, push_window};
-use crate::threads::{push_states, push_thread_list, push_threads, push_words};
-use debug_ways::events::push_events;
+use crate::threads::{
+    push, push_number, push_register, push_states, push_stop, push_thread_list, push_threads,
+    push_window, push_words,
+};
 use debug_ways::points::is_among;
-use debug_ways::shown::{count_view, last_seen, shown_thread};
-use debug_ways::standing::running_thread;
+use debug_ways::standing::{count_view, last_seen, lesser, running_thread, shown_thread};
+use debug_ways::stepping::push_events;
 use debug_ways::{Cursor, Machine, Point, Standing, Step};
-use rv32_instr::Stop;
 use sloth_base::{Name, Result};
 use std::alloc::Global;
 use text_pieces::line;
@@ -52,19 +52,6 @@ fn fixed_text(points: &[Point], request: &Request) -> &'static [u8]
     }
 }
 
-fn push_place(out: &mut Vec<u8>, standing: &Standing, pc: u32, stop: &Option<Stop>) -> Result<()>
-    ensures { OnOk result (out.new.items ≡ out.old.items ++ place_text standing.now pc stop.now) }
-{
-    line!(out; Word(b"count "), Number(standing.count))?;
-    if !standing.met {
-        return push(out, b"\n");
-    }
-    match stop {
-        Some(stop) => line!(out; Word(b", "), Word(stopped_line(pc, *stop).bytes())),
-        None => push(out, b"\n"),
-    }
-}
-
 // Puts the text that a reply tells in digits.
 #[tactic(auto, unfolding(crate::specs::Replies::help_text, crate::specs::Replies::no_goto_text))]
 fn push_plain<M: Machine>(
@@ -88,7 +75,15 @@ fn push_plain<M: Machine>(
         }
         Request::Count | Request::Goto(_) => {
             let stop = cursor.stop();
-            push_place(out, standing, cursor.look(standing.count).pc, &stop)
+            let pc = cursor.look(standing.count).pc;
+            line!(out; Word(b"count "), Number(standing.count))?;
+            if !standing.met {
+                return push(out, b"\n");
+            }
+            match stop {
+                Some(stop) => line!(out; Word(b", "), Word(stopped_line(pc, stop).bytes())),
+                None => push(out, b"\n"),
+            }
         }
         Request::NoGoto => push(out, b"goto K: K is a count from 0 to 1000000\n"),
         Request::States => {
@@ -222,4 +217,85 @@ pub enum Request {
     Help,
     Detach,
     Kill,
+}
+
+/// The most bytes of memory that are shown at once.
+const BYTE_LIMIT: u32 = 8_184;
+
+/// Puts all registers of the thread that is shown.
+pub fn push_registers<M: Machine>(
+    out: &mut Vec<u8>,
+    cursor: &mut Cursor<M>,
+    standing: &Standing,
+) -> Result<()>
+    requires { standing.now.count ≤ (cursor_run M.run cursor.old).end }
+    ensures text { OnOk result (out.new.items
+        ≡ out.old.items ++ registers_text (cursor_run M.run cursor.old) standing.now) }
+    ensures run { cursor_run M.run cursor.new ≡ cursor_run M.run cursor.old }
+{
+    let thread = shown_thread(cursor, standing);
+    for number in 0..38u32 {
+        push_register(out, cursor.register(standing.count, thread, number))?;
+    }
+    Ok(())
+}
+
+fn memory_byte<M: Machine>(
+    cursor: &mut Cursor<M>,
+    count: u32,
+    address: u32,
+    place: u32,
+) -> Option<u8>
+    requires { count ≤ (cursor_run M.run cursor.old).end }
+    ensures byte { result ≡ memory_byte ((cursor_run M.run cursor.old).byte count) (address + place) }
+    ensures run { cursor_run M.run cursor.new ≡ cursor_run M.run cursor.old }
+{
+    match address.checked_add(place) {
+        Some(here) => cursor.byte(count, here),
+        None => None,
+    }
+}
+
+fn push_bytes<M: Machine>(
+    out: &mut Vec<u8>,
+    cursor: &mut Cursor<M>,
+    count: u32,
+    length: u32,
+    address: u32,
+) -> Result<()>
+    requires { count ≤ (cursor_run M.run cursor.old).end }
+    ensures bytes { OnOk result (out.new.items
+        ≡ out.old.items ++ bytes_from ((cursor_run M.run cursor.old).byte count) length address) }
+    ensures run { cursor_run M.run cursor.new ≡ cursor_run M.run cursor.old }
+{
+    for place in 0..length {
+        match memory_byte(cursor, count, address, place) {
+            Some(byte) => push(out, &[byte])?,
+            None => return Ok(()),
+        }
+    }
+    Ok(())
+}
+
+/// Puts the digits of a part of memory, or a fault where bytes are wanted and none is there.
+pub fn push_memory<M: Machine>(
+    alloc: Global,
+    out: &mut Vec<u8>,
+    cursor: &mut Cursor<M>,
+    standing: &Standing,
+    window: &Window,
+) -> Result<()>
+    requires { standing.now.count ≤ (cursor_run M.run cursor.old).end }
+    ensures text { OnOk result (out.new.items
+        ≡ out.old.items ++ memory_text (cursor_run M.run cursor.old) standing.now window.now) }
+    ensures run { cursor_run M.run cursor.new ≡ cursor_run M.run cursor.old }
+{
+    let mut bytes = Vec::new(alloc);
+    let length = lesser(BYTE_LIMIT, window.length);
+    push_bytes(&mut bytes, cursor, standing.count, length, window.from)?;
+    if bytes.is_empty() && window.length != 0 {
+        push(out, b"E03")
+    } else {
+        push_hex(out, bytes.as_slice())
+    }
 }

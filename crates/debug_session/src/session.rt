@@ -1,15 +1,14 @@
-//! A session: its messages, one by one, and what is written for them.
-ghost use Rattle.std.specs.Prelude.{◌≡◌, ◌≤◌, ◌++◌, OnOk, length};
+//! A session: its messages, one by one, and what is written for them. The packets among bytes.
+ghost use Rattle.std.specs.Prelude.{◌≡◌, ◌≤◌, ◌++◌, OnOk, length, IfOk};
 ghost use Rattle.sloth_base.specs.Limits.{task_limit};
 ghost use Rattle.debug_ways.specs.Cursor.{cursor_run};
-ghost use Rattle.debug_session.specs.Sessions.{first_session, standing_behind, points_behind, reply_to, reply_packet};
-ghost use Rattle.debug_session.specs.Sessions.{behind_request};
+ghost use Rattle.debug_session.specs.Sessions.{first_session, standing_behind, points_behind, reply_to, reply_packet, behind_request};
 ghost use Rattle.debug_session.specs.Serving.{behind_event, event_answer};
+ghost use Rattle.debug_session.specs.Reading.{fresh, opened, event_after, reading_after};
 
-use crate::link::Link;
-use crate::reading::Event;
+use crate::commands::packet_request;
+use crate::hex::{Link, digit_value};
 use crate::replies::{Request, has_reply, push_text};
-use crate::requests::packet_request;
 use debug_ways::points::{set_point, take_point};
 use debug_ways::standing::{plain_step, plain_told, selected};
 use debug_ways::stepping::{continued, moved, stepped};
@@ -180,5 +179,118 @@ impl Session {
                 self.perform(alloc, out, cursor, names, &request)
             }
         }
+    }
+}
+
+/// The greatest number of bytes of data in a packet.
+pub const LONGEST: usize = 16_384;
+
+/// Where reading stands: outside packets, in the data, behind their `#`, or behind the first digit of the sum.
+#[derive(Clone, Copy)]
+pub enum Place {
+    Outside,
+    Inside,
+    Behind,
+    Half(u8),
+}
+
+/// What a byte completes: nothing, an interrupt, a demand for the last reply, a packet whose sum is wrong, or a packet.
+#[derive(Clone, Copy)]
+pub enum Event {
+    Nothing,
+    Interrupt,
+    Again,
+    Wrong,
+    Packet,
+}
+
+/// A reader of packets. It takes no memory once it is made.
+#[derive(Drop)]
+pub struct PacketReader {
+    place: Place,
+    content: Vec<u8>,
+    sum: u8,
+}
+
+impl Model for PacketReader {
+    ghost use Rattle.std.specs.Prelude.{◌≤◌, length, vec_capacity};
+    ghost use Rattle.debug_session.specs.Reading.{Reading};
+
+    ghost Value = { Reading };
+
+    ghost view = { λ reader. record { place = reader.place; content = reader.content.items; sum = reader.sum } };
+
+    ghost invariant = { λ reader. (length reader.content.items ≤ 16385) × (16385 ≤ vec_capacity reader.content) };
+}
+
+impl PacketReader {
+    /// A reader that has read nothing.
+    pub fn new(alloc: Global) -> Result<PacketReader>
+        ensures { IfOk result (λ reader. reader ≡ fresh) }
+    {
+        Ok(PacketReader {
+            place: Place::Outside,
+            content: Vec::with_capacity(alloc, LONGEST + 1)?,
+            sum: 0,
+        })
+    }
+
+    /// What stands in the packet that was read last; of what is too long the first 16,385 bytes.
+    pub fn content(&self) -> &[u8]
+        ensures { result.now ≡ self.now.content }
+    {
+        self.content.as_slice()
+    }
+
+    /// Takes a byte, and says what it completes.
+    pub fn take(&mut self, byte: u8) -> Event
+        ensures event { result ≡ event_after self.old byte }
+        ensures reading { self.new ≡ reading_after self.old byte }
+    {
+        match self.place {
+            Place::Outside => match byte {
+                b'$' => {
+                    self.begin();
+                    Event::Nothing
+                }
+                3 => Event::Interrupt,
+                b'-' => Event::Again,
+                _ => Event::Nothing,
+            },
+            Place::Inside => {
+                match byte {
+                    b'$' => self.begin(),
+                    b'#' => self.place = Place::Behind,
+                    _ => {
+                        if self.content.len() <= LONGEST {
+                            self.content.push_reserved(byte);
+                        }
+                        self.sum = self.sum.wrapping_add(byte);
+                    }
+                }
+                Event::Nothing
+            }
+            Place::Behind => {
+                self.place = Place::Half(byte);
+                Event::Nothing
+            }
+            Place::Half(first) => {
+                self.place = Place::Outside;
+                let told = u32::from(digit_value(first)) * 16 + u32::from(digit_value(byte));
+                if told == u32::from(self.sum) {
+                    Event::Packet
+                } else {
+                    Event::Wrong
+                }
+            }
+        }
+    }
+
+    fn begin(&mut self)
+        ensures { self.new ≡ opened }
+    {
+        self.place = Place::Inside;
+        self.content.clear();
+        self.sum = 0;
     }
 }

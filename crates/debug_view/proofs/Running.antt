@@ -9,7 +9,7 @@ use Rattle.sloth_base.specs.declared.image.Image.{Image}
 use Rattle.sloth_base.specs.declared.service.Arrival.{Arrival}
 use Rattle.sloth_base.specs.declared.numbers.Step.{Step}
 use Rattle.rv32_machine.specs.Start.{start}
-use Rattle.rv32_instr.specs.declared.effect.Stop.{Stop}
+use Rattle.rv32_instr.specs.declared.encoding.Stop.{Stop}
 use Rattle.rv32_instr.specs.Execute.{Next, Going, Stopped}
 use Rattle.rv32_machine.specs.Advance.{StepOutcome, Goes, Halts, advance, observed_step, outcome}
 use Rattle.rv32_machine.specs.Run.{Stopping, state_with_arrivals, moment, on_goes, state_after_from, state_after, stopping, stop_from, stop_of}

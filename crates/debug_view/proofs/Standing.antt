@@ -18,7 +18,7 @@ use Rattle.sloth_base.specs.MemoryMap.{line_count}
 use Rattle.sloth_base.proofs.Owners.{owned_below}
 use Rattle.observe.specs.Progress.{arrivals_from, arrivals_due, arrivals_behind}
 use Rattle.observe.proofs.Moments.{here-from, behind-from, from-later, moments-later}
-use Rattle.rv32_instr.specs.declared.effect.Stop.{Stop}
+use Rattle.rv32_instr.specs.declared.encoding.Stop.{Stop}
 use Rattle.rv32_instr.specs.Memory.{memory_of}
 use Rattle.rv32_machine.specs.Start.{start}
 use Rattle.rv32_machine.specs.Advance.{Goes, Halts, advance}

@@ -5,7 +5,7 @@ use Rattle.sloth_base.specs.Arithmetic.{sum32}
 use Rattle.sloth_base.specs.Limits.{task_limit}
 use Rattle.sloth_base.specs.MemoryMap.{memory_base, vectors_base}
 use Rattle.sloth_base.specs.declared.app.Width.TheVariants as width
-use Rattle.rv32_instr.specs.declared.effect.Bad.{Bad}
+use Rattle.rv32_instr.specs.declared.encoding.Bad.{Bad}
 use Rattle.rv32_instr.specs.Memory.{Memory, refusal, loaded_number}
 use Rattle.sloth_region.specs.Layout.{active, below_word, resume, context_bytes, context_cur, context_below}
 

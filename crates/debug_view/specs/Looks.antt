@@ -6,18 +6,18 @@ use Rattle.sloth_base.specs.Take.{line_to_take, execution_state}
 use Rattle.sloth_base.specs.Arithmetic.{size_of}
 use Rattle.sloth_base.specs.declared.app.Width.TheVariants as width
 use Rattle.rv32_instr.specs.declared.csr.TheConstants.{MSTATUS}
-use Rattle.rv32_instr.specs.declared.effect.Bad.{Bad}
-use Rattle.rv32_instr.specs.declared.effect.Change.{Change}
-use Rattle.rv32_instr.specs.declared.effect.Change.TheVariants.{Keep, Replace, Set, Clear}
-use Rattle.rv32_instr.specs.declared.effect.Effect.{Effect}
-use Rattle.rv32_instr.specs.declared.effect.Effect.TheVariants.{Load, Store, Csr, Return}
+use Rattle.rv32_instr.specs.declared.encoding.Bad.{Bad}
+use Rattle.rv32_instr.specs.declared.encoding.Change.{Change}
+use Rattle.rv32_instr.specs.declared.encoding.Change.TheVariants.{Keep, Replace, Set, Clear}
+use Rattle.rv32_instr.specs.declared.encoding.Effect.{Effect}
+use Rattle.rv32_instr.specs.declared.encoding.Effect.TheVariants.{Load, Store, Csr, Return}
 use Rattle.rv32_instr.specs.declared.InstrKind.{InstrKind}
 use Rattle.rv32_instr.specs.Effect.{effect}
 use Rattle.rv32_instr.specs.Table.{Decode}
 use Rattle.rv32_instr.specs.Memory.{Memory, memory_of, refusal, loaded_number}
 use Rattle.sloth_inspect.specs.States.{running_number_in}
-use Rattle.debug_ways.specs.declared.wanted.Access.{Access}
-use Rattle.debug_ways.specs.declared.wanted.Look.{Look}
+use Rattle.debug_ways.specs.declared.standing.Access.{Access}
+use Rattle.debug_ways.specs.declared.standing.Look.{Look}
 
 -- ---- the instruction
 

@@ -7,7 +7,7 @@ use Rattle.sloth_base.specs.Take.{execution_state}
 use Rattle.rv32_instr.specs.Memory.{memory_of}
 use Rattle.rv32_machine.specs.Run.{Stopping}
 use Rattle.sloth_inspect.specs.States.{states_in}
-use Rattle.trace_text.specs.declared.summary.Form.TheVariants as form
+use Rattle.trace_text.specs.declared.events.Form.TheVariants as form
 use Rattle.sloth_runner.specs.Runner.{run_text}
 use Rattle.debug_ways.specs.Runs.{Run}
 use Rattle.debug_view.specs.States.{state_at, stop_at, stop_within, end_at, end_stop, began_at, open_at}

@@ -9,14 +9,13 @@ ghost use Rattle.debug_view.specs.Standing.{AreLines};
 use observe::passing;
 use rv32_machine::{Machine, SlothBus};
 use sloth_base::Arrival;
-use sloth_runner::arrivals::arrive_front;
+use sloth_runner::runner::arrive_front;
 
 /// The lines of the arrivals of the machine's count become pending. Those of later moments are given back.
 pub fn arrive<'a>(machine: &mut Machine<SlothBus>, coming: &'a [Arrival]) -> &'a [Arrival]
     requires lines { AreLines coming.now }
-    ensures state { state (λ bus. bus) machine.new
-        ≡ state_arrive (map (λ arrival. arrival.line) (arrivals_due machine.old.count coming.now))
-        (state (λ bus. bus) machine.old) }
+    ensures state { state (λ bus. bus) machine.new ≡ state_arrive (map (λ arrival. arrival.line) (arrivals_due
+        machine.old.count coming.now)) (state (λ bus. bus) machine.old) }
     ensures count { machine.new.count ≡ machine.old.count }
     ensures behind { result.now ≡ arrivals_behind machine.old.count coming.now }
 {

@@ -2,7 +2,7 @@
 ghost use Rattle.std.specs.Prelude.{◌≡◌, ◌≤◌};
 ghost use Rattle.sloth_base.specs.Arithmetic.{size_of};
 ghost use Rattle.rv32_machine.specs.State.{state};
-ghost use Rattle.debug_view.specs.Looks.{fetched_instr, instr_effect, effect_of, keeps_open, change_keeps_open};
+ghost use Rattle.debug_view.specs.Looks.{fetched_instr, instr_effect, effect_of, change_keeps_open};
 ghost use Rattle.debug_view.specs.Looks.{effect_access, is_plain, machine_look};
 ghost use Rattle.sloth_base.specs.Limits.{task_limit};
 
@@ -53,22 +53,6 @@ fn change_keeps_open(change: Change) -> bool
     }
 }
 
-fn keeps_open(effect: &Option<Effect>, behind_return: bool) -> bool
-    ensures { result ≡ keeps_open effect.now behind_return }
-{
-    match effect {
-        Some(Effect::Csr { csr, change, .. }) => {
-            if *csr == MSTATUS {
-                change_keeps_open(*change)
-            } else {
-                true
-            }
-        }
-        Some(Effect::Return) => behind_return,
-        _ => true,
-    }
-}
-
 fn width_bytes(width: Width) -> u32
     ensures { result ≡ size_of width }
 {
@@ -103,9 +87,14 @@ pub fn is_plain(machine: &Machine<SlothBus>, effect: &Option<Effect>) -> bool
     requires { effect.now ≡ effect_of (state (λ bus. bus) machine.now) }
     ensures { result ≡ is_plain (state (λ bus. bus) machine.now) }
 {
-    machine.enabled()
-        && machine.line_to_take().is_none()
-        && keeps_open(effect, machine.enabled_behind_return())
+    if !machine.enabled() || machine.line_to_take().is_some() {
+        return false;
+    }
+    match effect {
+        Some(Effect::Csr { csr, change, .. }) if *csr == MSTATUS => change_keeps_open(*change),
+        Some(Effect::Return) => machine.enabled_behind_return(),
+        _ => true,
+    }
 }
 
 /// What is looked at of a machine of so many tasks, with what is carried along.

@@ -27,9 +27,8 @@ ghost use Rattle.debug_view.specs.TaskRegisters.{PlannedImagesShowRegisters};
 /// The state shown at a count is that of the run, with the count's arrivals; a run reaches each count up to its end.
 #[tactic(auto, using(crate::proofs::Running::shown_is_reached, crate::proofs::Running::reaches_to_end))]
 pub fn states_are_those_of_the_run()
-    ensures shown { (image : Image) (arrivals : List Arrival) (k : ℕ) (state : State)
-        → state_after k arrivals (start image) ≡ Some state
-        → state_at image arrivals k ≡ state_with_arrivals arrivals k state }
+    ensures shown { (image : Image) (arrivals : List Arrival) (k : ℕ) (state : State) → state_after k arrivals (start
+        image) ≡ Some state → state_at image arrivals k ≡ state_with_arrivals arrivals k state }
     ensures reached { (image : Image) (arrivals : List Arrival) (k : ℕ) → k ≤ (run_of image arrivals).end
         → (state : State) × (state_after k arrivals (start image) ≡ Some state)
         × (state_at image arrivals k ≡ state_with_arrivals arrivals k state) }
@@ -61,13 +60,12 @@ pub fn states_are_those_printed()
 
 /// If an image shows the abstract scheduler's tasks, each shown state is the task's behind the events before its count.
 pub fn states_are_those_of_the_scheduler()
-    ensures { (config : Config) (app : App) (image : Image) → HasTaskStates config app image → length image.tasks
-        ≡ length config.tasks
-        → (arrivals : List Arrival) (n k count : ℕ) (s : System) → AreComing (owners_in config) arrivals
-        → k ≤ (run_of image arrivals).end → ((run_of image arrivals).look k).open_count ≡ Some count → count < n
-        → AreStepsTo config app (filter (stands_before count) (events_of image arrivals n)) (opening config app) s
-        → (t : ℕ) (unused : TaskState) → t < length config.tasks
-        → get_or ((run_of image arrivals).states count) t unused ≡ (task s t).state }
+    ensures { (config : Config) (app : App) (image : Image) → HasTaskStates config app image → length image.tasks ≡
+        length config.tasks → (arrivals : List Arrival) (n k count : ℕ) (s : System) → AreComing (owners_in config)
+        arrivals → k ≤ (run_of image arrivals).end → ((run_of image arrivals).look k).open_count ≡ Some count → count <
+        n → AreStepsTo config app (filter (stands_before count) (events_of image arrivals n)) (opening config app) s →
+        (t : ℕ) (unused : TaskState) → t < length config.tasks → get_or ((run_of image arrivals).states count) t unused
+        ≡ (task s t).state }
 {}
 
 /// Where interrupts are open, the formulas of an image's file give a debugger the system of the abstract scheduler.

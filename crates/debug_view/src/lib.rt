@@ -4,7 +4,6 @@
 #![tactic(auto)]
 
 mod arriving;
-mod contexts;
 mod instructions;
 pub mod laws;
 pub mod place;

@@ -18,6 +18,7 @@ use std::alloc::Global;
 use std::marker::Model;
 
 /// A machine at a count of the run of an image. Contracts see the image, the arrivals and the count.
+#[derive(Drop)]
 pub struct Place<'a> {
     image: &'a Image,
     arrivals: &'a [Arrival],
@@ -44,20 +45,6 @@ impl<'a> Model for Place<'a> {
 
     ghost invariant = { λ place. StandsAt place.image.now place.arrivals.now place.coming.now
         (state (λ bus. bus) place.machine) place.machine.count place.began place.open_count };
-}
-
-// Written out: what is derived is proved anew wherever a value is let go.
-impl Drop for Place<'_> {
-    fn drop(self) {
-        let Place {
-            image: _,
-            arrivals: _,
-            coming: _,
-            machine: _,
-            began: _,
-            open_count: _,
-        } = self;
-    }
 }
 
 impl<'a> Place<'a> {
@@ -111,16 +98,9 @@ impl<'a> Machine for Place<'a> {
     }
 
     fn copy(&self, alloc: Global) -> Result<Place<'a>> {
-        let mut machine = Hart::starting(alloc, self.image)?;
-        machine.set_to(&self.machine);
-        Ok(Place {
-            image: self.image,
-            arrivals: self.arrivals,
-            coming: self.coming,
-            machine,
-            began: self.began,
-            open_count: self.open_count,
-        })
+        let mut place = Place::new(alloc, self.image, self.arrivals)?;
+        place.set_to(self);
+        Ok(place)
     }
 
     fn set_to(&mut self, other: &Place<'a>) {

@@ -6,7 +6,7 @@ ghost use Rattle.sloth_base.specs.Limits.{count_limit};
 ghost use Rattle.sloth_base.specs.Owners.{owners_named};
 ghost use Rattle.sloth_io.specs.MemSink.{taken_by};
 ghost use Rattle.sloth_runner.specs.Runner.{run_text};
-ghost use Rattle.trace_text.specs.declared.summary.Form.TheVariants as form;
+ghost use Rattle.trace_text.specs.declared.events.Form.TheVariants as form;
 
 use sloth_base::{Arrival, Image, NoMemory, Result};
 use sloth_io::MemSink;
@@ -17,20 +17,15 @@ use trace_text::Form;
 /// The most bytes of the text. A run of 1,000,000 instructions has an event for each at most.
 const TEXT_BYTES: u32 = 256 * 1024 * 1024;
 
-fn run_sink<'a>(
-    alloc: Global,
-    image: &'a Image,
-    arrivals: &'a [Arrival],
-    counts: u32,
-) -> Result<MemSink>
+fn run_sink<'a>(alloc: Global, image: &'a Image, arrivals: &'a [Arrival], n: u32) -> Result<MemSink>
     requires format { InFormat image.now }
     requires arrivals { AreArrivals (owners_named image.now) arrivals.now }
-    requires few { counts ≤ count_limit }
-    ensures { IfOk result (λ sink. taken_by sink ≡ run_text image.now arrivals.now form.Counted counts) }
+    requires few { n ≤ count_limit }
+    ensures { IfOk result (λ sink. taken_by sink ≡ run_text image.now arrivals.now form.Counted n) }
 {
     let mut sink = MemSink::new(alloc, TEXT_BYTES, &[])?;
     let mut runner = Runner::new(alloc, image, arrivals)?;
-    match runner.run(counts, Form::Counted, &mut sink) {
+    match runner.run(n, Form::Counted, &mut sink) {
         Ok(_) => Ok(sink),
         Err(_) => Err(NoMemory),
     }

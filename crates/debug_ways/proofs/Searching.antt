@@ -3,7 +3,7 @@ use Rattle.std.proofs.Common.{ℕ, zero, suc, ◌≡◌, ◌<◌, ◌≤◌, ◌
 use Rattle.std.proofs.Math.Dec.{leb, eqb}
 use Rattle.std.proofs.lemmas.Bool.Decides.{leb_tells, eqb_tells}
 use Rattle.std.specs.Prelude.{Option, Some, IfSome, ◌||◌, if◌then◌else◌, unwrap_or}
-use Rattle.debug_ways.specs.declared.wanted.Look.{Look}
+use Rattle.debug_ways.specs.declared.standing.Look.{Look}
 use Rattle.debug_ways.specs.Runs.{Run}
 use Rattle.debug_ways.specs.Ways.{Tests, ends_ahead, ends_back, guards_before, least_behind, greatest_below, last_hit, IsLeast, IsGreatest}
 

@@ -1,16 +1,16 @@
 -- Where a way through a run ends, and why.
 use Rattle.std.specs.Prelude.{ℕ, zero, suc, ◌+◌, ◌==◌, ◌&&◌, ◌||◌, nat_le, nat_lt, not, List, Option, None, Some, Bool, true, false, is_some, if◌then◌else◌}
 use Rattle.std.specs.Option.{unwrap_or}
-use Rattle.debug_ways.specs.declared.wanted.Look.{Look}
+use Rattle.debug_ways.specs.declared.standing.Look.{Look}
 use Rattle.debug_ways.specs.Runs.{Run}
 use Rattle.debug_ways.specs.Ways.{Tests, ahead, back}
 use Rattle.debug_ways.specs.declared.points.Point.{Point}
 use Rattle.debug_ways.specs.declared.points.Watch.{Watch}
-use Rattle.debug_ways.specs.declared.wanted.Target.{Target}
-use Rattle.debug_ways.specs.declared.wanted.Target.TheVariants as targets
-use Rattle.debug_ways.specs.declared.wanted.Cause.{Cause}
-use Rattle.debug_ways.specs.declared.wanted.Cause.TheVariants as causes
-use Rattle.debug_ways.specs.declared.wanted.Passage.{Passage}
+use Rattle.debug_ways.specs.declared.standing.Target.{Target}
+use Rattle.debug_ways.specs.declared.standing.Target.TheVariants as targets
+use Rattle.debug_ways.specs.declared.standing.Cause.{Cause}
+use Rattle.debug_ways.specs.declared.standing.Cause.TheVariants as causes
+use Rattle.debug_ways.specs.declared.standing.Passage.{Passage}
 use Rattle.debug_ways.specs.Points.{breakpoint_kind, watched}
 
 -- what a way stops at: points, a target, and addresses at which the target is none

@@ -1,6 +1,6 @@
 -- Breakpoints and watchpoints.
 use Rattle.std.specs.Prelude.{ℕ, ◌+◌, ◌==◌, ◌&&◌, ◌||◌, nat_lt, List, filter, [], ◌∷◌, ◌++◌, Option, None, Some, Bool, false, not, length, if◌then◌else◌}
-use Rattle.debug_ways.specs.declared.wanted.Access.{Access}
+use Rattle.debug_ways.specs.declared.standing.Access.{Access}
 use Rattle.debug_ways.specs.declared.points.Point.{Point}
 use Rattle.debug_ways.specs.declared.points.Watch.{Watch}
 

@@ -3,8 +3,8 @@ use Rattle.std.specs.Prelude.{ℕ, ◌==◌, nat_lt, Option, None, Some, if◌th
 use Rattle.std.specs.Option.{unwrap_or}
 use Rattle.debug_ways.specs.Runs.{Run}
 use Rattle.debug_ways.specs.Causes.{running_thread}
-use Rattle.debug_ways.specs.declared.shown.Seen.{Seen}
-use Rattle.debug_ways.specs.declared.shown.View.{View}
+use Rattle.debug_ways.specs.declared.standing.Seen.{Seen}
+use Rattle.debug_ways.specs.declared.standing.View.{View}
 use Rattle.debug_ways.specs.declared.standing.Standing.{Standing}
 
 -- the lesser one

@@ -1,17 +1,17 @@
 -- Where a session stands but for its points, and what steps and continues make of it.
 use Rattle.std.specs.Prelude.{ℕ, ◌==◌, ◌&&◌, ◌||◌, nat_le, nat_lt, not, List, Bool, true, false, is_some, is_none, if◌then◌else◌}
-use Rattle.debug_ways.specs.declared.wanted.Look.{Look}
+use Rattle.debug_ways.specs.declared.standing.Look.{Look}
 use Rattle.debug_ways.specs.Runs.{Run}
 use Rattle.debug_ways.specs.Ways.{ahead}
 use Rattle.debug_ways.specs.declared.points.Point.{Point}
 use Rattle.debug_ways.specs.declared.standing.Told.{Told}
 use Rattle.debug_ways.specs.declared.standing.Standing.{Standing}
 use Rattle.debug_ways.specs.declared.standing.Step.{Step}
-use Rattle.debug_ways.specs.declared.wanted.Target.{Target}
-use Rattle.debug_ways.specs.declared.wanted.Target.TheVariants as targets
-use Rattle.debug_ways.specs.declared.wanted.Cause.{Cause}
-use Rattle.debug_ways.specs.declared.wanted.Cause.TheVariants as causes
-use Rattle.debug_ways.specs.declared.wanted.Passage.{Passage}
+use Rattle.debug_ways.specs.declared.standing.Target.{Target}
+use Rattle.debug_ways.specs.declared.standing.Target.TheVariants as targets
+use Rattle.debug_ways.specs.declared.standing.Cause.{Cause}
+use Rattle.debug_ways.specs.declared.standing.Cause.TheVariants as causes
+use Rattle.debug_ways.specs.declared.standing.Passage.{Passage}
 use Rattle.debug_ways.specs.Points.{breakpoint_kind}
 use Rattle.debug_ways.specs.Causes.{Wish, running_thread, is_own, wish_tests, passage}
 

@@ -1,6 +1,6 @@
 -- Where ways through a run end.
 use Rattle.std.specs.Prelude.{ℕ, zero, suc, ◌≡◌, ◌<◌, ◌≤◌, ◌+◌, ◌-◌, ◌⊎◌, Option, None, Some, Bool, true, false, ◌||◌, if◌then◌else◌}
-use Rattle.debug_ways.specs.declared.wanted.Look.{Look}
+use Rattle.debug_ways.specs.declared.standing.Look.{Look}
 use Rattle.debug_ways.specs.Runs.{Run}
 
 -- what ends a way: a count at which it stops, or an access that it does not cross

@@ -55,17 +55,6 @@ impl<M: Machine> Cursor<M> {
         self.end
     }
 
-    fn advance(&mut self)
-        requires { cursor_count self.old < (cursor_run M.run self.old).end }
-        ensures count { cursor_count self.new ≡ cursor_count self.old + 1 }
-        ensures run { cursor_run M.run self.new ≡ cursor_run M.run self.old }
-    {
-        if !self.here.step() {
-            unreachable!();
-        }
-        self.count += 1;
-    }
-
     // Goes to the machine that was kept last at or before a count.
     fn leap(&mut self, count: u32)
         requires { count ≤ (cursor_run M.run self.old).end }
@@ -88,16 +77,11 @@ impl<M: Machine> Cursor<M> {
             self.leap(count);
         }
         while self.count < count {
-            self.advance();
+            if !self.here.step() {
+                unreachable!();
+            }
+            self.count += 1;
         }
-    }
-
-    /// The machine, where it stands.
-    pub fn here(&self) -> &M
-        ensures run { M.run result.now ≡ cursor_run M.run self.now }
-        ensures count { M.count result.now ≡ cursor_count self.now }
-    {
-        &self.here
     }
 
     /// What is looked at at a count.

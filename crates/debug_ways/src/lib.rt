@@ -4,22 +4,19 @@
 #![tactic(auto)]
 
 pub mod cursor;
-pub mod events;
 pub mod laws;
 pub mod machine;
 mod marks;
-pub mod passages;
 pub mod points;
-pub mod shown;
 pub mod standing;
 pub mod stepping;
-pub mod wanted;
 pub mod ways;
 
 pub use cursor::Cursor;
 pub use machine::Machine;
-pub use passages::passage;
-pub use points::Point;
-pub use standing::{Standing, Step};
-pub use wanted::{Access, Cause, Look, Passage, Target, Wanted, is_own};
+pub use points::{Point, passage};
+pub use standing::{Access, Cause, Look, Passage, Standing, Step, Target, Wanted, is_own};
 pub use ways::{Hits, go_ahead, go_back};
+
+/// What was put, where memory suffices.
+pub type Put = sloth_base::Result<()>;

@@ -40,9 +40,8 @@ pub fn go_ahead<M: Machine, H: Hits>(cursor: &mut Cursor<M>, hits: &H, from: u32
 fn least<M: Machine, H: Hits>(cursor: &mut Cursor<M>, hits: &H, from: u32) -> u32
     requires { from ≤ (cursor_run M.run cursor.old).end }
     ensures within { result ≤ (cursor_run M.run cursor.old).end }
-    ensures count { result
-        ≡ least_behind (ends_ahead (cursor_run M.run cursor.old) (H.tests hits.now))
-        ((cursor_run M.run cursor.old).end - from) from }
+    ensures count { result ≡ least_behind (ends_ahead (cursor_run M.run cursor.old) (H.tests hits.now)) ((cursor_run
+        M.run cursor.old).end - from) from }
     ensures run { cursor_run M.run cursor.new ≡ cursor_run M.run cursor.old }
 {
     let end = cursor.end();
@@ -101,7 +100,7 @@ fn greatest<M: Machine, H: Hits>(cursor: &mut Cursor<M>, hits: &H, below: u32) -
     let mut width = NEAR;
     while to > 0 {
         let from = to.saturating_sub(width);
-        if let Some(count) = last_between(cursor, hits, from, to) {
+        if let Some(count) = last_hit(cursor, hits, from, to) {
             return count;
         }
         to = from;
@@ -110,21 +109,16 @@ fn greatest<M: Machine, H: Hits>(cursor: &mut Cursor<M>, hits: &H, below: u32) -
     0
 }
 
-fn last_between<M: Machine, H: Hits>(
-    cursor: &mut Cursor<M>,
-    hits: &H,
-    from: u32,
-    to: u32,
-) -> Option<u32>
-    requires ordered { from ≤ to }
+fn last_hit<M: Machine, H: Hits>(cursor: &mut Cursor<M>, hits: &H, low: u32, to: u32) -> Option<u32>
+    requires ordered { low ≤ to }
     requires within { to ≤ (cursor_run M.run cursor.old).end }
     ensures below { IfSome result (λ last. last < to) }
-    ensures last { result ≡ last_hit (ends_back (cursor_run M.run cursor.old) (H.tests hits.now)) (to - from) from }
+    ensures last { result ≡ last_hit (ends_back (cursor_run M.run cursor.old) (H.tests hits.now)) (to - low) low }
     ensures run { cursor_run M.run cursor.new ≡ cursor_run M.run cursor.old }
 {
     let mut last = None;
-    let mut guarded = guarded_before(cursor, hits, from);
-    for count in from..to {
+    let mut guarded = guarded_before(cursor, hits, low);
+    for count in low..to {
         let found = count_tests(cursor, hits, count);
         last = later(last, found.0, guarded, count);
         guarded = found.1;

@@ -10,10 +10,10 @@ use Rattle.image_file.specs.ImageText.{counter_bytes, image_bytes, name_bytes}
 use Rattle.image_file.proofs.Images.{image-unique}
 use Rattle.elf_image.specs.ElfText.{ElfText, elf_header, note_bytes}
 use Rattle.elf_image.specs.Faults.{AreRight, Description, FaultIsOne, IsElfErrorOf, IsFirstElfFault, HasElfHeader, HasElfMagic, HasLoadHeader, HasNote, HasNoteHeader, IsFramed, NoneIsBoth, NoneIsNeither, described_bytes}
-use Rattle.image_file.specs.declared.fault.ElfFault.{ElfFault}
-use Rattle.image_file.specs.declared.fault.ElfFault.TheVariants as fault
-use Rattle.image_file.specs.declared.fault.FileError.{FileError}
-use Rattle.image_file.specs.declared.fault.FileError.TheVariants as failure
+use Rattle.image_file.specs.declared.read.ElfFault.{ElfFault}
+use Rattle.image_file.specs.declared.read.ElfFault.TheVariants as fault
+use Rattle.image_file.specs.declared.read.FileError.{FileError}
+use Rattle.image_file.specs.declared.read.FileError.TheVariants as failure
 use Rattle.elf_image.proofs.Frames.{one-load, one-note}
 use Rattle.elf_image.proofs.Descriptions.{one-described}
 use Rattle.elf_image.proofs.Notes.{length-note, one-description}

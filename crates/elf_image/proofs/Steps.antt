@@ -6,11 +6,14 @@ use Rattle.sloth_base.specs.declared.image.Image.{Image}
 use Rattle.image_file.specs.declared.header.Sizes.{Sizes}
 use Rattle.elf_image.specs.ElfText.{ElfText, note_bytes}
 use Rattle.elf_image.specs.Faults.{Description, IsElfErrorOf, HasNote, IsFramed, described_bytes}
-use Rattle.elf_image.specs.Reading.{AreNamesAndMarks, HasDescriptionSizes, IsContentsError, IsDescriptionError, IsDescription, IsNote, IsElfMarksError, IsNoteError, IsElfPartsError, description_at}
-use Rattle.image_file.specs.declared.fault.ElfFault.TheVariants as fault
-use Rattle.image_file.specs.declared.fault.ElfFault.{ElfFault}
-use Rattle.image_file.specs.declared.fault.FileError.{FileError}
-use Rattle.image_file.specs.declared.fault.FileError.TheVariants as failure
+use Rattle.elf_image.specs.Reading.{AreNamesAndMarks, HasDescriptionSizes, IsContentsError, IsDescriptionError, IsDescription, IsNote, IsNoteError, description_at}
+use Rattle.image_file.specs.Reading.{IsMarksError, IsPartsError, NoMarks}
+use Rattle.image_file.specs.declared.read.ElfFault.TheVariants as fault
+use Rattle.image_file.specs.declared.read.ImageFault.{ImageFault}
+use Rattle.image_file.specs.declared.read.ImageFault.TheVariants as missing
+use Rattle.image_file.specs.declared.read.ElfFault.{ElfFault}
+use Rattle.image_file.specs.declared.read.FileError.{FileError}
+use Rattle.image_file.specs.declared.read.FileError.TheVariants as failure
 use Rattle.elf_image.proofs.Faulted.{short-note}
 use Rattle.elf_image.proofs.Descriptions.{parts_of, read-right, right-read, stands}
 use Rattle.elf_image.proofs.Notes.{length-note, one-description}
@@ -22,30 +25,26 @@ both-ok (Ok a) P Q R h p q = h a p q
 both-ok (Err e) P Q R h p q = tt
 
 -- parts that are missing are a fault of the description
-pub parts-miss : (f : FileError ElfFault) (description : List ℕ) (s : Sizes) → HasDescriptionSizes description s → IsElfPartsError f description 16 s → IsDescriptionError f description
-parts-miss (failure.Fault fault.E7) description s has h = λ d w e. h (parts_of d) [] (stands description s d has w e)
-parts-miss (failure.Fault fault.E1) description s has h = absurd h
-parts-miss (failure.Fault fault.E2) description s has h = absurd h
-parts-miss (failure.Fault fault.E3) description s has h = absurd h
-parts-miss (failure.Fault fault.E4) description s has h = absurd h
-parts-miss (failure.Fault fault.E5) description s has h = absurd h
-parts-miss (failure.Fault fault.E6) description s has h = absurd h
-parts-miss (failure.Fault fault.E8) description s has h = absurd h
-parts-miss failure.Memory description s has h = h
+pub parts-miss : (f : ImageFault) (description : List ℕ) (s : Sizes) → HasDescriptionSizes description s → IsPartsError (failure.Fault f) description 16 s
+    → IsDescriptionError (failure.Fault fault.E7) description
+parts-miss missing.I2 description s has h = λ d w e. h (parts_of d) [] (stands description s d has w e)
+parts-miss missing.I1 description s has h = absurd h
+parts-miss missing.I3 description s has h = absurd h
+parts-miss missing.I4 description s has h = absurd h
+parts-miss missing.I5 description s has h = absurd h
 
 -- marks that are missing are a fault of the contents
-pub marks-miss : (f : FileError ElfFault) (file : List ℕ) (tasks funcs counters : List (List ℕ)) (at count size : ℕ)
-    → IsElfMarksError f file at count (service_limit (length counters)) (length funcs) size → IsContentsError f file tasks funcs counters at count size
-marks-miss (failure.Fault fault.E8) file tasks funcs counters at count size h =
-    λ image read. h image.marks (drop (at + length image.marks * 12) file) read.counted read.marks.right read.marks.are
-marks-miss (failure.Fault fault.E1) file tasks funcs counters at count size h = absurd h
-marks-miss (failure.Fault fault.E2) file tasks funcs counters at count size h = absurd h
-marks-miss (failure.Fault fault.E3) file tasks funcs counters at count size h = absurd h
-marks-miss (failure.Fault fault.E4) file tasks funcs counters at count size h = absurd h
-marks-miss (failure.Fault fault.E5) file tasks funcs counters at count size h = absurd h
-marks-miss (failure.Fault fault.E6) file tasks funcs counters at count size h = absurd h
-marks-miss (failure.Fault fault.E7) file tasks funcs counters at count size h = absurd h
-marks-miss failure.Memory file tasks funcs counters at count size h = h
+pub marks-miss : (f : ImageFault) (file : List ℕ) (tasks funcs counters : List (List ℕ)) (at count size s n : ℕ)
+    → s ≡ service_limit (length counters) → n ≡ length funcs → IsMarksError (failure.Fault f) file at count s n size
+    → IsContentsError (failure.Fault fault.E8) file tasks funcs counters at count size
+marks-miss missing.I3 file tasks funcs counters at count size s n services few h =
+    λ image read.
+    let N : ℕ → ℕ → Type 0 = λ x y. NoMarks file at count x y size in
+    (subst (λ x. N x (length funcs)) services (subst (N s) few h)) image.marks (drop (at + length image.marks * 12) file) read.counted read.marks.right read.marks.are
+marks-miss missing.I1 file tasks funcs counters at count size s n services few h = absurd h
+marks-miss missing.I2 file tasks funcs counters at count size s n services few h = absurd h
+marks-miss missing.I4 file tasks funcs counters at count size s n services few h = absurd h
+marks-miss missing.I5 file tasks funcs counters at count size s n services few h = absurd h
 
 module _ (file : List ℕ) (size note : ℕ) (frame : IsFramed file size note) where
   -- a note that is none's is a fault

@@ -10,10 +10,10 @@ use Rattle.image_file.specs.Fields.{four_bytes}
 use Rattle.image_file.specs.ImageText.{mark_bytes, name_bytes}
 use Rattle.image_file.specs.Parts.{AreRightNames}
 use Rattle.elf_image.specs.ElfText.{ElfText, elf_magic, elf_header, load_header, note_header, note_bytes}
-use Rattle.image_file.specs.declared.fault.ElfFault.{ElfFault}
-use Rattle.image_file.specs.declared.fault.ElfFault.TheVariants as fault
-use Rattle.image_file.specs.declared.fault.FileError.{FileError}
-use Rattle.image_file.specs.declared.fault.FileError.TheVariants as failure
+use Rattle.image_file.specs.declared.read.ElfFault.{ElfFault}
+use Rattle.image_file.specs.declared.read.ElfFault.TheVariants as fault
+use Rattle.image_file.specs.declared.read.FileError.{FileError}
+use Rattle.image_file.specs.declared.read.FileError.TheVariants as failure
 
 -- the file begins as each ELF file does
 abbrev pub HasElfMagic : List ℕ → Type 0

@@ -6,31 +6,19 @@ use Rattle.sloth_base.specs.declared.image.Image.{Image}
 use Rattle.sloth_base.specs.declared.image.Mark.{Mark}
 use Rattle.image_file.specs.Fields.{four_bytes}
 use Rattle.image_file.specs.Limits.{SizesFit}
-use Rattle.image_file.specs.Parts.{AreRightNames, Parts, PartsStand}
-use Rattle.image_file.specs.Reading.{MarksStand, NoMarks}
+use Rattle.image_file.specs.Parts.{AreRightNames}
+use Rattle.image_file.specs.Reading.{MarksStand}
 use Rattle.image_file.specs.declared.header.Sizes.{Sizes}
 use Rattle.elf_image.specs.ElfText.{note_bytes}
 use Rattle.elf_image.specs.Faults.{Description, IsFramed, IsWithin, described_bytes}
-use Rattle.image_file.specs.declared.fault.ElfFault.TheVariants as fault
-use Rattle.image_file.specs.declared.fault.ElfFault.{ElfFault}
-use Rattle.image_file.specs.declared.fault.FileError.{FileError}
-use Rattle.image_file.specs.declared.fault.FileError.TheVariants as failure
+use Rattle.image_file.specs.declared.read.ElfFault.TheVariants as fault
+use Rattle.image_file.specs.declared.read.ElfFault.{ElfFault}
+use Rattle.image_file.specs.declared.read.FileError.{FileError}
+use Rattle.image_file.specs.declared.read.FileError.TheVariants as failure
 
 -- the file has the headers of so many bytes of memory and of the note with which it ends
 abbrev pub IsFramedAt : List ℕ → ℕ → Type 0
 IsFramedAt file size = (note : ℕ) × IsFramed file size note
-
--- what an error says of parts of these numbers at a place: the fault, that none stand there
-abbrev pub IsElfPartsError : FileError ElfFault → List ℕ → ℕ → Sizes → Type 0
-IsElfPartsError (failure.Fault fault.E7) file at sizes = (parts : Parts) (rest : List ℕ) → ¬ (PartsStand file at sizes parts rest)
-IsElfPartsError (failure.Fault _) file at sizes = ⊥
-IsElfPartsError failure.Memory file at sizes = ⊤
-
--- what an error says of so many marks from a place on
-abbrev pub IsElfMarksError : FileError ElfFault → List ℕ → ℕ → ℕ → ℕ → ℕ → ℕ → Type 0
-IsElfMarksError (failure.Fault fault.E8) file at count services funcs size = NoMarks file at count services funcs size
-IsElfMarksError (failure.Fault _) file at count services funcs size = ⊥
-IsElfMarksError failure.Memory file at count services funcs size = ⊤
 
 -- this is a note with a description of so many bytes
 pub record IsNote (note : List ℕ) (size : ℕ) : Type 0 where

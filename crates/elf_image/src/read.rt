@@ -1,23 +1,20 @@
-//! Reading an ELF file. The names of an image.
-//! The note of an ELF file. The zeros with which the note of an ELF file ends.
+//! Reading an ELF file, and its note.
 ghost use Rattle.std.specs.Prelude.{◌⊎◌, ◌≡◌, ◌<◌, ◌≤◌, ◌+◌, IfOk, IfErr, IfSome, IfNone, Decides, drop, length, take, ◌++◌, OnOk};
-ghost use Rattle.image_file.specs.Reading.{MarksStand, NamedPartsStand};
 ghost use Rattle.image_file.specs.declared.header.Sizes.{Sizes as AnySizes};
-ghost use Rattle.sloth_base.specs.ImageRange.{service_limit};
 ghost use Rattle.sloth_base.specs.declared.image.Image.{Image as ImageOf};
 ghost use Rattle.sloth_base.specs.MemoryMap.{memory_bytes};
 ghost use Rattle.elf_image.specs.ElfText.{ElfText, note_bytes, padding};
 ghost use Rattle.elf_image.specs.Faults.{IsElfErrorOf, IsFirstElfFault};
-ghost use Rattle.elf_image.specs.Reading.{IsFramedAt, IsElfPartsError, IsElfMarksError, IsNote, IsNoteError, HasDescriptionSizes, IsDescription, IsDescriptionError, AreNamesAndMarks, AreRightMarks, IsContentsError};
-ghost use Rattle.image_file.specs.declared.fault.ElfFault.{ElfFault as FaultOf};
-ghost use Rattle.image_file.specs.declared.fault.FileError.TheVariants as failed_by;
+ghost use Rattle.elf_image.specs.Reading.{IsFramedAt, IsNote, IsNoteError, HasDescriptionSizes, IsDescription, IsDescriptionError, AreNamesAndMarks, AreRightMarks, IsContentsError};
+ghost use Rattle.image_file.specs.declared.read.ElfFault.{ElfFault as FaultOf};
+ghost use Rattle.image_file.specs.declared.read.FileError.TheVariants as failed_by;
 ghost use Rattle.image_file.specs.Parts.{AreRightNames};
 
 use crate::put_words;
 use crate::reading::{HEADERS, judge_header, read_load_header, read_note_header};
 use image_file::{
     ElfError, ElfFault, ImageError, Outline, Sizes, are_ascending, are_right_names, read_marks,
-    read_parts, service_limit, u32_at,
+    read_parts, read_u32, service_limit,
 };
 use sloth_base::{Image, List, Mark, Result};
 use std::alloc::Global;
@@ -94,7 +91,7 @@ fn read_note(alloc: Global, note: &[u8]) -> Result<usize, ElfError>
     ensures read { IfOk result (λ size. IsNote note.now size) }
     ensures failed { IfErr result (λ failure. IsNoteError failure note.now) }
 {
-    let size = u32_at(note, 4) as usize;
+    let size = read_u32(note, 4) as usize;
     if note.len() != NOTE_HEAD + size + padding_size(size) {
         return Err(ElfFault::E7.into());
     }
@@ -105,7 +102,6 @@ fn read_note(alloc: Global, note: &[u8]) -> Result<usize, ElfError>
     Ok(size)
 }
 
-// The numbers of a description, where it has them and they are within the limits.
 fn read_numbers(description: &[u8]) -> Option<Sizes>
     ensures read { IfSome result (λ sizes. HasDescriptionSizes description.now sizes) }
     ensures none { IfNone result ((sizes : AnySizes) → ¬ (HasDescriptionSizes description.now sizes)) }
@@ -114,92 +110,35 @@ fn read_numbers(description: &[u8]) -> Option<Sizes>
         return None;
     }
     let sizes = Sizes {
-        tasks: u32_at(description, 0) as usize,
-        funcs: u32_at(description, 4) as usize,
-        counters: u32_at(description, 8) as usize,
+        tasks: read_u32(description, 0) as usize,
+        funcs: read_u32(description, 4) as usize,
+        counters: read_u32(description, 8) as usize,
         memory: 0,
-        marks: u32_at(description, 12) as usize,
+        marks: read_u32(description, 12) as usize,
     };
-    if !sizes.are_within() {
-        return None;
-    }
-    Some(sizes)
+    sizes.are_within().then_some(sizes)
 }
 
-// The parts of a description behind its numbers, or the fault that they are missing.
-fn parts_behind(alloc: Global, description: &[u8], sizes: &Sizes) -> Result<Outline, ElfError>
-    requires { HasDescriptionSizes description.now sizes.now }
-    ensures read { IfOk result (λ outline.
-        NamedPartsStand description.now 16 sizes.now outline.tasks.items outline.funcs.items outline.counters.items
-        outline.memory) }
-    ensures count { IfOk result (λ outline. outline.count ≡ sizes.now.marks) }
-    ensures failed { IfErr result (λ failure. IsElfPartsError failure description.now 16 sizes.now) }
-{
-    match read_parts(alloc, description, NUMBERS, sizes) {
-        Ok(outline) => Ok(outline),
-        Err(ImageError::Fault(_)) => Err(ElfFault::E7.into()),
-        Err(ImageError::Memory) => Err(ElfError::Memory),
-    }
-}
-
-// Marks, or the fault that one is out of range.
-fn marks_at(
-    alloc: Global,
-    file: &[u8],
-    outline: &Outline,
-    size: usize,
-) -> Result<Vec<Mark>, ElfError>
-    requires parts { IsDescription file.now outline.now.tasks.items outline.now.funcs.items
-        outline.now.counters.items outline.now.memory outline.now.count }
+fn last_marks(alloc: Global, file: &[u8], all: &Outline, size: usize) -> Result<Vec<Mark>, ElfError>
+    requires parts { IsDescription file.now all.now.tasks.items all.now.funcs.items all.now.counters.items
+        all.now.memory all.now.count }
     requires fits { size ≤ memory_bytes }
     ensures read { IfOk result (λ marks.
-        MarksStand file.now outline.now.memory (service_limit (length outline.now.counters.items)) (length
-        outline.now.funcs.items) size
-        marks.items) }
-    ensures counted { IfOk result (λ marks. length marks.items ≡ outline.now.count) }
+        AreRightMarks file.now all.now.tasks.items all.now.funcs.items all.now.counters.items all.now.memory
+        all.now.count size marks.items) }
     ensures failed { IfErr result (λ failure.
-        IsElfMarksError failure file.now outline.now.memory outline.now.count (service_limit (length
-        outline.now.counters.items))
-        (length outline.now.funcs.items) size) }
+        IsContentsError failure file.now all.now.tasks.items all.now.funcs.items all.now.counters.items all.now.memory
+        all.now.count size) }
 {
-    match read_marks(
-        alloc,
-        file,
-        outline.memory,
-        outline.count,
-        service_limit(outline.counters.len()),
-        outline.funcs.len(),
-        size,
-    ) {
-        Ok(marks) => Ok(marks),
-        Err(ImageError::Fault(_)) => Err(ElfFault::E8.into()),
-        Err(ImageError::Memory) => Err(ElfError::Memory),
-    }
-}
-
-// The marks of these parts, where names and marks are right.
-fn right_marks(
-    alloc: Global,
-    file: &[u8],
-    outline: &Outline,
-    size: usize,
-) -> Result<Vec<Mark>, ElfError>
-    requires parts { IsDescription file.now outline.now.tasks.items outline.now.funcs.items
-        outline.now.counters.items outline.now.memory outline.now.count }
-    requires fits { size ≤ memory_bytes }
-    ensures read { IfOk result (λ marks.
-        AreRightMarks file.now outline.now.tasks.items outline.now.funcs.items outline.now.counters.items
-        outline.now.memory outline.now.count size
-        marks.items) }
-    ensures failed { IfErr result (λ failure.
-        IsContentsError failure file.now outline.now.tasks.items outline.now.funcs.items outline.now.counters.items
-        outline.now.memory
-        outline.now.count size) }
-{
-    if !has_right_names(outline) {
+    if !has_right_names(all) {
         return Err(ElfFault::E8.into());
     }
-    let marks = marks_at(alloc, file, outline, size)?;
+    let (services, funcs) = (service_limit(all.counters.len()), all.funcs.len());
+    let marks = match read_marks(alloc, file, all.memory, all.count, services, funcs, size) {
+        Ok(marks) => marks,
+        Err(ImageError::Fault(_)) => return Err(ElfError::Fault(ElfFault::E8)),
+        Err(ImageError::Memory) => return Err(ElfError::Memory),
+    };
     if !are_ascending(&marks) {
         return Err(ElfFault::E8.into());
     }
@@ -216,38 +155,34 @@ fn read_description(alloc: Global, description: &[u8]) -> Result<Outline, ElfErr
     let Some(sizes) = read_numbers(description) else {
         return Err(ElfFault::E7.into());
     };
-    let outline = parts_behind(alloc, description, &sizes)?;
+    let outline = match read_parts(alloc, description, NUMBERS, &sizes) {
+        Ok(outline) => outline,
+        Err(ImageError::Fault(_)) => return Err(ElfError::Fault(ElfFault::E7)),
+        Err(ImageError::Memory) => return Err(ElfError::Memory),
+    };
     if outline.memory + outline.count * 12 != description.len() {
         return Err(ElfFault::E7.into());
     }
     Ok(outline)
 }
 
-// The image of these parts and this memory, or what is wrong with them.
-fn read_contents(
-    alloc: Global,
-    file: &[u8],
-    outline: Outline,
-    memory: &[u8],
-) -> Result<Image, ElfError>
-    requires parts { IsDescription file.now outline.tasks.items outline.funcs.items outline.counters.items
-        outline.memory outline.count }
+fn read_contents(alloc: Global, file: &[u8], all: Outline, memory: &[u8]) -> Result<Image, ElfError>
+    requires parts { IsDescription file.now all.tasks.items all.funcs.items all.counters.items all.memory all.count }
     requires fits { length memory.now ≤ memory_bytes }
     ensures read { IfOk result (λ image.
-        AreNamesAndMarks file.now outline.tasks.items outline.funcs.items outline.counters.items outline.memory
-        outline.count (length memory.now) image) }
+        AreNamesAndMarks file.now all.tasks.items all.funcs.items all.counters.items all.memory all.count
+        (length memory.now) image) }
     ensures memory { IfOk result (λ image. image.memory ≡ memory.now) }
     ensures failed { IfErr result (λ failure.
-        IsContentsError failure file.now outline.tasks.items outline.funcs.items outline.counters.items
-        outline.memory outline.count
+        IsContentsError failure file.now all.tasks.items all.funcs.items all.counters.items all.memory all.count
         (length memory.now)) }
 {
-    let marks = right_marks(alloc, file, &outline, memory.len())?;
+    let marks = last_marks(alloc, file, &all, memory.len())?;
     let memory = Vec::from_slice(alloc, memory)?;
     Ok(Image {
-        tasks: List::from_vec(outline.tasks),
-        funcs: List::from_vec(outline.funcs),
-        counters: List::from_vec(outline.counters),
+        tasks: List::from_vec(all.tasks),
+        funcs: List::from_vec(all.funcs),
+        counters: List::from_vec(all.counters),
         memory: List::from_vec(memory),
         marks: List::from_vec(marks),
     })

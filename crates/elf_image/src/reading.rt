@@ -1,13 +1,15 @@
-//! Reading the headers of an ELF file. The headers of an ELF file, and the numbers of which they are made.
-ghost use Rattle.std.specs.Prelude.{◌≡◌, ◌≤◌, IfOk, IfErr, OnOk, Decides, ◌++◌};
+//! The headers of an ELF file, read and written, and writing the whole.
+ghost use Rattle.std.specs.Prelude.{◌≡◌, ◌≤◌, IfOk, IfErr, OnOk, Decides, ◌++◌, length};
 ghost use Rattle.sloth_base.specs.MemoryMap.{memory_bytes};
-ghost use Rattle.elf_image.specs.ElfText.{load_header, note_header, elf_header};
+ghost use Rattle.elf_image.specs.ElfText.{load_header, note_header, elf_header, ElfText, description_bytes, file_bytes};
 ghost use Rattle.elf_image.specs.Faults.{IsElfErrorOf, HasElfHeader, HasLoadHeader, HasNoteHeader, IsMemorySize, IsNoteSize};
 ghost use Rattle.std.specs.List.{flat_map};
 ghost use Rattle.image_file.specs.Fields.{four_bytes};
+ghost use Rattle.sloth_base.specs.ImageRange.{InFormat};
 
-use image_file::{ElfError, ElfFault, put_u32, u32_at};
-use sloth_base::{MEMORY_BASE, MEMORY_BYTES, Result};
+use crate::read::{note_size, put_note};
+use image_file::{ElfError, ElfFault, put_marks, put_names, put_u32, read_u32};
+use sloth_base::{Image, MEMORY_BASE, MEMORY_BYTES, Result};
 use std::alloc::Global;
 
 /// The ELF header is that of an image.
@@ -33,7 +35,6 @@ fn is_memory_size(size: u32) -> bool
     size <= MEMORY_BYTES as u32 && size % 4 == 0
 }
 
-// A note of so many bytes is whole words, and long enough.
 fn is_note_size(size: u32) -> bool
     ensures { Decides result (IsNoteSize size) }
 {
@@ -63,7 +64,7 @@ pub fn read_load_header(alloc: Global, bytes: &[u8]) -> Result<u32, ElfError>
     ensures read { IfOk result (λ size. HasLoadHeader bytes.now size) }
     ensures failed { IfErr result (λ failure. IsElfErrorOf failure bytes.now) }
 {
-    let size = u32_at(bytes, ELF_HEADER + 16);
+    let size = read_u32(bytes, ELF_HEADER + 16);
     let header = &bytes[ELF_HEADER..ELF_HEADER + PROGRAM_HEADER];
     let is_header = is_load_header(alloc, header, size)?;
     if !is_header {
@@ -81,7 +82,7 @@ pub fn read_note_header(alloc: Global, bytes: &[u8], size: u32) -> Result<u32, E
     ensures read { IfOk result (λ note. HasNoteHeader bytes.now size note) }
     ensures failed { IfErr result (λ failure. IsElfErrorOf failure bytes.now) }
 {
-    let note = u32_at(bytes, ELF_HEADER + PROGRAM_HEADER + 16);
+    let note = read_u32(bytes, ELF_HEADER + PROGRAM_HEADER + 16);
     let header = &bytes[ELF_HEADER + PROGRAM_HEADER..HEADERS];
     let is_header = is_note_header(alloc, header, size, note)?;
     if !is_header {
@@ -144,4 +145,47 @@ pub fn put_note_header(file: &mut Vec<u8>, size: u32, note: u32) -> Result<()>
     ensures { OnOk result (file.new.items ≡ file.old.items ++ note_header size note) }
 {
     put_words(file, &[4, 116 + size, 0, 0, note, note, 4, 4])
+}
+
+/// The bytes of an image's ELF file.
+pub fn write_elf(alloc: Global, image: &Image) -> Result<Vec<u8>>
+    requires { InFormat image.now }
+    ensures { IfOk result (λ file. ElfText file.items image.now) }
+{
+    let description = describe(alloc, image)?;
+    let memory = image.memory.items();
+    assemble(alloc, memory, description.as_slice())
+}
+
+fn assemble(alloc: Global, memory: &[u8], description: &[u8]) -> Result<Vec<u8>>
+    requires { (length memory.now ≤ memory_bytes) × (length description.now ≤ 300000) }
+    ensures { IfOk result (λ file. file.items ≡ file_bytes memory.now description.now) }
+{
+    let size = memory.len() as u32;
+    let mut file = Vec::new(alloc);
+    file.extend_from_slice(&elf_header())?;
+    put_load_header(&mut file, size)?;
+    put_note_header(&mut file, size, note_size(description))?;
+    file.extend_from_slice(memory)?;
+    put_note(&mut file, description)?;
+    Ok(file)
+}
+
+fn describe(alloc: Global, image: &Image) -> Result<Vec<u8>>
+    requires { InFormat image.now }
+    ensures { IfOk result (λ description. description.items ≡ description_bytes image.now) }
+{
+    let tasks = image.tasks.items();
+    let funcs = image.funcs.items();
+    let counters = image.counters.items();
+    let marks = image.marks.items();
+    let mut description = Vec::new(alloc);
+    let (t, f) = (tasks.len() as u32, funcs.len() as u32);
+    let (c, m) = (counters.len() as u32, marks.len() as u32);
+    put_words(&mut description, &[t, f, c, m])?;
+    put_names(&mut description, tasks)?;
+    put_names(&mut description, funcs)?;
+    put_names(&mut description, counters)?;
+    put_marks(&mut description, marks)?;
+    Ok(description)
 }

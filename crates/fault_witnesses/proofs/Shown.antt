@@ -11,9 +11,9 @@ use Rattle.fault_witnesses.specs.CallChains.{IsChain, chain_end}
 use Rattle.fault_witnesses.specs.CleanWays.{IsShownWay}
 use Rattle.fault_witnesses.specs.Witnesses.{is_lacking, names_task, LeadsFromTask, IsLackedEvent, IsUser, AreCallsBehind, is_culprit, IsShownWayTo, IsBehind, IsShownBehind}
 use Rattle.fault_witnesses.specs.declared.chains.Calls.{Calls}
-use Rattle.fault_witnesses.specs.declared.places.Place.TheVariants as place
+use Rattle.fault_witnesses.specs.declared.breaches.Place.TheVariants as place
 use Rattle.fault_witnesses.specs.declared.users.User.{User}
-use Rattle.fault_witnesses.specs.declared.ways.Way.{Way}
+use Rattle.fault_witnesses.specs.declared.witnesses.Way.{Way}
 
 -- a task that lacks what an item uses, which does not name it
 pub user_is : (config : Config) (app : App) (b i : ℕ) (user : User) → user.task < length config.tasks → is_lacking config user.task (operation app b i) ≡ true

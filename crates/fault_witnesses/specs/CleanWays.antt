@@ -8,7 +8,7 @@ use Rattle.code_rules.specs.Code.{IsPathStep, held_after, held_list_at, is_in}
 use Rattle.call_graph.specs.Rows.{is_get}
 use Rattle.task_verify.specs.Tests.{is_wrong_release}
 use Rattle.task_verify.specs.Labels.{last_label_below}
-use Rattle.fault_witnesses.specs.declared.ways.Way.{Way}
+use Rattle.fault_witnesses.specs.declared.witnesses.Way.{Way}
 
 -- a service that takes what is held
 abbrev pub is_own_second_take : List ℕ → Op → Bool

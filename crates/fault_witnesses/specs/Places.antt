@@ -7,20 +7,14 @@ use Rattle.sloth_base.specs.declared.refusal.Part.TheVariants as part
 use Rattle.sloth_base.specs.declared.refusal.Refusal.{Refusal}
 use Rattle.sloth_base.specs.Named.{function, item_of, label_of}
 use Rattle.code_rules.specs.WellFormed.{IsBreach, HasOtherList}
-use Rattle.fault_witnesses.specs.declared.places.Place.{Place}
-use Rattle.fault_witnesses.specs.declared.places.Place.TheVariants as place
+use Rattle.fault_witnesses.specs.declared.breaches.Place.{Place}
+use Rattle.fault_witnesses.specs.declared.breaches.Place.TheVariants as place
 
 -- the task code has this place
 abbrev pub IsPlace : App → Place → Type 0
 IsPlace app (place.Header b) = b < length app.funcs
 IsPlace app (place.Label b k) = (b < length app.funcs) × (k < length (function app b).labels)
 IsPlace app (place.Item b i) = (b < length app.funcs) × (i < length (function app b).items)
-
--- the number of its body
-abbrev pub body_of_place : Place → ℕ
-body_of_place (place.Header b) = b
-body_of_place (place.Label b k) = b
-body_of_place (place.Item b i) = b
 
 -- its line in the source
 abbrev pub line_of_place : App → Place → ℕ

@@ -20,10 +20,10 @@ use Rattle.fault_witnesses.specs.CleanWays.{IsShownWay, is_own_second_take}
 use Rattle.fault_witnesses.specs.CallChains.{IsChain, chain_end}
 use Rattle.fault_witnesses.specs.Places.{IsPlaceOfFault}
 use Rattle.fault_witnesses.specs.declared.chains.Calls.{Calls}
-use Rattle.fault_witnesses.specs.declared.places.Place.{Place}
-use Rattle.fault_witnesses.specs.declared.places.Place.TheVariants as place
+use Rattle.fault_witnesses.specs.declared.breaches.Place.{Place}
+use Rattle.fault_witnesses.specs.declared.breaches.Place.TheVariants as place
 use Rattle.fault_witnesses.specs.declared.users.User.{User}
-use Rattle.fault_witnesses.specs.declared.ways.Way.{Way}
+use Rattle.fault_witnesses.specs.declared.witnesses.Way.{Way}
 use Rattle.fault_witnesses.specs.declared.witnesses.Witness.{Witness}
 
 -- ---- the way

@@ -7,26 +7,21 @@
 //! `is_chain` tests a chain of calls (`specs/CallChains`). Rules: `code_rules`.
 #![tactic(auto)]
 
+use sloth_base::Result;
+
 pub mod body_lists;
 pub mod breaches;
-mod calls_behind;
-mod chain_search;
 pub mod chains;
-pub mod clean_steps;
-pub mod label_rules;
 pub mod laws;
-pub mod places;
 mod straight_ways;
 pub mod users;
-mod way_search;
-pub mod ways;
 pub mod witnesses;
 
-pub use body_lists::KeptList;
+pub use body_lists::{KeptList, is_orderly};
+pub use breaches::{Place, held_entering, held_list, label_before};
 pub use chains::{Calls, Link, chain_end, cycle_calls};
-pub use clean_steps::is_orderly;
-pub use label_rules::{held_entering, held_list, label_before};
-pub use places::Place;
 pub use users::User;
-pub use ways::Way;
-pub use witnesses::{Witness, fault_witness};
+pub use witnesses::{Judged, Way, Witness, fault_witness};
+
+/// What was found, if something was.
+pub type Found<T> = Result<Option<T>>;

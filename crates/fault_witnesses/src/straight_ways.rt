@@ -5,13 +5,12 @@ ghost use Rattle.task_verify.specs.Labels.{last_label_below, ArePlaced};
 ghost use Rattle.fault_witnesses.specs.BodyLists.{AreLastLabels};
 ghost use Rattle.fault_witnesses.specs.CleanWays.{IsCleanStep, IsShownWay, way_item};
 
-use crate::{Way, is_orderly};
+use crate::{Found, Way, is_orderly};
 use sloth_base::{Func, Item, List, Result};
 use std::alloc::Global;
 use task_verify::{falls, held_after, held_by, last_labels};
 use text_pieces::push;
 
-// The last label at or in front of an item.
 fn label_in_front(last: &[Option<usize>], goal: usize) -> Option<usize> {
     if goal >= last.len() {
         return None;
@@ -24,7 +23,6 @@ fn label_in_front(last: &[Option<usize>], goal: usize) -> Option<usize> {
     None
 }
 
-// Whether each item from the label on steps cleanly to the next one, up to the goal.
 fn is_straight(
     alloc: Global,
     func: &Func,
@@ -53,7 +51,6 @@ fn is_straight(
     Ok(true)
 }
 
-// The items from one up to another one.
 fn items_between(alloc: Global, items: &[Item], first: usize, goal: usize) -> Result<Vec<usize>>
     requires ordered { first ≤ goal }
     requires inside { goal < length items.now }
@@ -67,12 +64,7 @@ fn items_between(alloc: Global, items: &[Item], first: usize, goal: usize) -> Re
     Ok(way)
 }
 
-fn labelled_way(
-    alloc: Global,
-    func: &Func,
-    last: &[Option<usize>],
-    goal: usize,
-) -> Result<Option<Way>>
+fn labelled_way(alloc: Global, func: &Func, last: &[Option<usize>], goal: usize) -> Found<Way>
     requires count { length last.now ≡ length func.now.items + 1 }
     requires lasts { AreLastLabels func.now last.now }
     requires inside { goal < length func.now.items }
@@ -118,7 +110,7 @@ fn stands_last(func: &Func, last: &[Option<usize>], label: usize, goal: usize) -
 }
 
 /// A way of clean steps in the order of the text, from the last label in front of an item, if these are clean.
-pub fn straight_way(alloc: Global, func: &Func, goal: usize) -> Result<Option<Way>>
+pub fn straight_way(alloc: Global, func: &Func, goal: usize) -> Found<Way>
     requires placed { ArePlaced func.now }
     requires inside { goal < length func.now.items }
     ensures { IfOk result (IsShownWay func.now goal) }

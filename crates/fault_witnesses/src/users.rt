@@ -3,11 +3,10 @@ ghost use Rattle.std.specs.Prelude.{◌≡◌, ◌<◌, ◌⊎◌, length, true,
 ghost use Rattle.sloth_base.specs.Named.{function, IsBodyOf};
 ghost use Rattle.fault_witnesses.specs.Witnesses.{is_lacking, names_task, IsLackedEvent, IsUser};
 
-use crate::Link;
-use crate::chain_search::calls_between;
-use sloth_base::{App, Code, Config, List, Op, Result, Service};
-use std::alloc::Global;
-use task_verify::tasks::{is_task_body, lacks, lists};
+use crate::chains::calls_between;
+use crate::{Found, Judged, Link};
+use sloth_base::{App, Code, Config, List, Op, Service};
+use task_verify::held_resources::{is_task_body, lacks, lists};
 
 /// A task that lacks what an item uses, with an event that it lacks; and the calls from its body to that of the item.
 #[derive(Drop)]
@@ -54,7 +53,6 @@ fn lacks_event(config: &Config, task: usize, event: usize) -> bool
     event < config.events.items().len() && lacks(config, task, config.events.items()[event].mask)
 }
 
-// The first of these events that the task lacks.
 fn event_lacked(config: &Config, task: usize, events: &[usize]) -> Option<usize>
     requires { task < length config.now.tasks }
     ensures { IfSome result (IsLackedEvent config.now task) }
@@ -67,7 +65,6 @@ fn event_lacked(config: &Config, task: usize, events: &[usize]) -> Option<usize>
     None
 }
 
-// The body of a task.
 fn task_body(app: &App, task: usize) -> Option<usize>
     ensures { IfSome result (λ b. IsBodyOf app.now task b) }
 {
@@ -80,27 +77,19 @@ fn task_body(app: &App, task: usize) -> Option<usize>
 }
 
 // The task as a user of the item, if it is one: the item names it, or it reaches the item.
-fn one_user(
-    alloc: Global,
-    config: &Config,
-    app: &App,
-    body: usize,
-    item: usize,
-    task: usize,
-    events: &[usize],
-) -> Result<Option<User>>
-    requires task { task < length config.now.tasks }
-    requires known { body < length app.now.funcs }
-    requires inside { item < length (function app.now body).items }
-    ensures { IfOk result (λ user. IfSome user (IsUser config.now app.now body item)) }
+fn one_user(judged: &Judged, body: usize, item: usize, task: usize) -> Found<User>
+    requires task { task < length judged.now.config.now.tasks }
+    requires known { body < length judged.now.app.now.funcs }
+    requires inside { item < length (function judged.now.app.now body).items }
+    ensures { IfOk result (λ user. IfSome user (IsUser judged.now.config.now judged.now.app.now body item)) }
 {
-    let func = app.function(body);
-    if !is_lacking(config, task, func.op(item)) {
+    let func = judged.app.function(body);
+    if !is_lacking(judged.config, task, func.op(item)) {
         return Ok(None);
     }
-    let event = event_lacked(config, task, events);
+    let event = event_lacked(judged.config, task, judged.events);
     if names_task(func.op(item)) {
-        let links = List::from_vec(Vec::new(alloc));
+        let links = List::from_vec(Vec::new(judged.alloc));
         let user = User {
             task,
             body,
@@ -109,10 +98,10 @@ fn one_user(
         };
         return Ok(Some(user));
     }
-    let Some(start) = task_body(app, task) else {
+    let Some(start) = task_body(judged.app, task) else {
         return Ok(None);
     };
-    match calls_between(alloc, app, start, body)? {
+    match calls_between(judged.alloc, judged.app, start, body)? {
         Some(links) => Ok(Some(User {
             task,
             body: start,
@@ -141,25 +130,17 @@ fn nearer(first: Option<User>, second: Option<User>) -> Option<User>
 }
 
 /// The task that lacks what an item uses (V12): the first that reaches it by the fewest calls; of other rules none.
-pub fn lacking_user(
-    alloc: Global,
-    config: &Config,
-    app: &App,
-    code: Code,
-    body: usize,
-    item: usize,
-    events: &[usize],
-) -> Result<Option<User>>
-    requires known { body < length app.now.funcs }
-    requires inside { item < length (function app.now body).items }
-    ensures { IfOk result (λ user. IfSome user (IsUser config.now app.now body item)) }
+pub fn lacking_user(judged: &Judged, body: usize, item: usize) -> Found<User>
+    requires known { body < length judged.now.app.now.funcs }
+    requires inside { item < length (function judged.now.app.now body).items }
+    ensures { IfOk result (λ user. IfSome user (IsUser judged.now.config.now judged.now.app.now body item)) }
 {
-    if !matches!(code, Code::V12) {
+    if !matches!(judged.refusal.code, Code::V12) {
         return Ok(None);
     }
     let mut best = None;
-    for task in 0..config.tasks.items().len() {
-        let user = one_user(alloc, config, app, body, item, task, events)?;
+    for task in 0..judged.config.tasks.items().len() {
+        let user = one_user(judged, body, item, task)?;
         best = nearer(best, user);
     }
     Ok(best)

@@ -1,12 +1,17 @@
 //! The ways through a body: breadth first, the lower item first, and as far as the rules on resources are kept.
-ghost use Rattle.std.specs.Prelude.{◌≡◌, ◌<◌, ℕ, length, set, get_or, is_some, Some, None, IfOk, IfSome, OnOk};
+//! The held lists at the items of a body, spread along its ways.
+ghost use Rattle.std.specs.Prelude.{◌≡◌, ◌<◌, ℕ, length, set, get_or, is_some, Some, None, IfOk, IfSome, OnOk, ◌==◌};
 ghost use Rattle.holds_infer.specs.RightLists.{HasItsLabels};
 ghost use Rattle.holds_infer.specs.WayLists.{AreWayLists, AreHeldBehind};
+ghost use Rattle.std.specs.List.{list_any};
+ghost use Rattle.code_rules.specs.Code.{is_in};
+ghost use Rattle.holds_infer.specs.Places.{list_at};
+ghost use Rattle.holds_infer.specs.Spread.{list_behind, list_after, IsListVisit, AreLists, AreSpreading};
 
+use crate::Found;
 use crate::other_ways::goes;
-use crate::spread::{Held, no_lists, place_list};
 use fault_witnesses::is_orderly;
-use sloth_base::{Func, List, ResId, Result};
+use sloth_base::{Call, Func, List, Op, ResId, Result, Service};
 use std::alloc::Global;
 use task_verify::{held_after, held_by, is_held, jump_of, next_of};
 use text_pieces::push;
@@ -56,8 +61,7 @@ fn has_list(lists: &[Held], item: usize) -> bool
     }
 }
 
-// What is held behind an item that was reached, if it is orderly.
-fn held_behind(alloc: Global, func: &Func, lists: &[Held], item: usize) -> Result<Option<List<u32>>>
+fn held_behind(alloc: Global, func: &Func, lists: &[Held], item: usize) -> Found<List<u32>>
     requires inside { item < length func.now.items }
     requires lists { AreWayLists func.now lists.now }
     ensures { IfOk result (λ found. IfSome found (AreHeldBehind func.now item)) }
@@ -114,7 +118,7 @@ fn leave(
     before: &mut [usize],
     reached: &mut Vec<usize>,
     item: usize,
-) -> Result<Option<Step>>
+) -> Found<Step>
     requires inside { item < length func.now.items }
     requires labels { HasItsLabels func.now }
     requires lists { AreWayLists func.now lists.old }
@@ -138,14 +142,13 @@ fn leave(
     Ok(None)
 }
 
-// Goes on from each item that was reached, until two ways meet that hold different resources.
 fn reach_all(
     alloc: Global,
     func: &Func,
     lists: &mut [Held],
     before: &mut [usize],
     reached: &mut Vec<usize>,
-) -> Result<Option<Step>>
+) -> Found<Step>
     requires labels { HasItsLabels func.now }
     requires lists { AreWayLists func.now lists.old }
     ensures { OnOk result (AreWayLists func.now lists.new) }
@@ -163,13 +166,7 @@ fn reach_all(
     Ok(None)
 }
 
-// From the first item, with nothing held.
-fn walk(
-    alloc: Global,
-    func: &Func,
-    lists: &mut [Held],
-    before: &mut [usize],
-) -> Result<Option<Step>>
+fn walk(alloc: Global, func: &Func, lists: &mut [Held], before: &mut [usize]) -> Found<Step>
     requires labels { HasItsLabels func.now }
     requires clear { (i : ℕ) → get_or lists.old i None ≡ None }
     ensures { OnOk result (AreWayLists func.now lists.new) }
@@ -183,14 +180,6 @@ fn walk(
     reach_all(alloc, func, lists, before, &mut reached)
 }
 
-fn zeros(alloc: Global, count: usize) -> Result<Vec<usize>> {
-    let mut numbers = Vec::new(alloc);
-    for _place in 0..count {
-        push(&mut numbers, 0)?;
-    }
-    Ok(numbers)
-}
-
 /// The ways from the first item of a body.
 pub fn body_ways(alloc: Global, func: &Func) -> Result<BodyWays>
     requires { HasItsLabels func.now }
@@ -198,11 +187,128 @@ pub fn body_ways(alloc: Global, func: &Func) -> Result<BodyWays>
 {
     let count = func.items.items().len();
     let mut lists = no_lists(alloc, count)?;
-    let mut before = zeros(alloc, count)?;
+    let mut before = vec![in alloc; 0; count]?;
     let meeting = walk(alloc, func, &mut lists, &mut before)?;
     Ok(BodyWays {
         lists: List::from_vec(lists),
         before: List::from_vec(before),
         meeting,
     })
+}
+
+/// What is held at a place, where it has a list.
+pub type Held = Option<List<ResId>>;
+
+fn is_any(held: &[ResId], resource: u32) -> bool
+    ensures { result ≡ list_any (λ taken. taken == resource) held.now }
+{
+    held.iter().any(|taken| taken.0 == resource)
+}
+
+fn is_listed(held: &[ResId], resource: u32) -> bool
+    ensures { result ≡ is_in resource held.now }
+{
+    is_any(held, resource)
+}
+
+fn list_behind(held: Vec<ResId>, call: Call) -> Result<Vec<ResId>>
+    ensures { IfOk result (λ next. next.items ≡ list_behind call.service call.object held.items) }
+{
+    let mut held = held;
+    match call.service {
+        Service::GetResource => {
+            if !is_listed(held.as_slice(), call.object) {
+                push(&mut held, ResId(call.object))?;
+            }
+            Ok(held)
+        }
+        Service::ReleaseResource => {
+            held.pop();
+            Ok(held)
+        }
+        _ => Ok(held),
+    }
+}
+
+fn list_after(alloc: Global, held: &[ResId], op: Op) -> Result<Vec<ResId>>
+    ensures { IfOk result (λ next. next.items ≡ list_after op held.now) }
+{
+    let held = held.to_vec(alloc)?;
+    match op {
+        Op::Serve(call) => list_behind(held, call),
+        _ => Ok(held),
+    }
+}
+
+/// The list at a place, empty where it has none.
+pub fn place_list(lists: &[Held], place: usize) -> &[ResId]
+    ensures { result.now ≡ list_at lists.now place }
+{
+    match lists.get(place) {
+        Some(Some(held)) => held.items(),
+        _ => &[],
+    }
+}
+
+// Gives a place this list and keeps it to go on from, where it has none yet.
+fn visit(
+    alloc: Global,
+    lists: &mut [Held],
+    pending: &mut Vec<usize>,
+    at: usize,
+    held: &[ResId],
+) -> Result<()>
+    requires { at < length lists.old }
+    ensures { OnOk result (IsListVisit lists.old lists.new pending.old.items pending.new.items at held.now) }
+{
+    if lists[at].is_some() {
+        return Ok(());
+    }
+    let held = held.to_vec(alloc)?;
+    push(pending, at)?;
+    lists[at] = Some(List::from_vec(held));
+    Ok(())
+}
+
+fn spread(alloc: Global, func: &Func, lists: &mut [Held], pending: &mut Vec<usize>) -> Result<()>
+    requires labels { HasItsLabels func.now }
+    requires spreading { AreSpreading func.now lists.old pending.old.items }
+    ensures { OnOk result (AreLists func.now lists.new) }
+{
+    loop {
+        match pending.pop() {
+            None => return Ok(()),
+            Some(from) => {
+                let behind = list_after(alloc, place_list(lists, from), func.op(from))?;
+                let held = behind.as_slice();
+                visit(alloc, lists, pending, next_of(func, from), held)?;
+                visit(alloc, lists, pending, jump_of(func, from), held)?;
+            }
+        }
+    }
+}
+
+/// So many places without a list.
+pub fn no_lists(alloc: Global, count: usize) -> Result<Vec<Held>>
+    ensures count { IfOk result (λ lists. length lists.items ≡ count) }
+    ensures clear { IfOk result (λ lists. (i : ℕ) → get_or lists.items i None ≡ None) }
+{
+    let mut lists = Vec::new(alloc);
+    for place in 0..count {
+        push(&mut lists, None)?;
+    }
+    Ok(lists)
+}
+
+/// The lists of all places that paths from the first one, where nothing is held, reach.
+pub fn places(alloc: Global, func: &Func) -> Result<Vec<Held>>
+    requires labels { HasItsLabels func.now }
+    requires some { 0 < length func.now.items }
+    ensures { IfOk result (λ lists. AreLists func.now lists.items) }
+{
+    let mut lists = no_lists(alloc, func.items.items().len())?;
+    let mut pending = Vec::new(alloc);
+    visit(alloc, &mut lists, &mut pending, 0, &[])?;
+    spread(alloc, func, &mut lists, &mut pending)?;
+    Ok(lists)
 }

@@ -29,7 +29,6 @@ fn push_lists<'a>(lists: &mut Vec<&'a [ResId]>, func: &'a Func) -> Result<()>
     Ok(())
 }
 
-// The lists of all labels, in the order of the text.
 fn code_lists<'a>(alloc: Global, app: &'a App) -> Result<Vec<&'a [ResId]>>
     ensures { IfOk result (λ lists. map referent lists.items ≡ all_holds app.now) }
 {
@@ -49,7 +48,6 @@ fn numbered_list<'a>(lists: &[&'a [ResId]], number: usize) -> &'a [ResId]
     }
 }
 
-// Writes a part, and the LF behind it, if it is not the last.
 fn write_line(
     out: &mut Vec<u8>,
     config: &Config,
@@ -69,7 +67,6 @@ fn write_line(
     Ok(())
 }
 
-// The number of labels behind a line.
 fn labels_behind(line: &SourceLine, number: usize) -> usize
     requires { number + 1 < 2 ^ 64 }
     ensures { result ≡ cond (is_label line.now) (number + 1) number }
@@ -77,7 +74,6 @@ fn labels_behind(line: &SourceLine, number: usize) -> usize
     if is_label(line) { number + 1 } else { number }
 }
 
-// The parts of a text, which are these lines, with these lists at the labels in turn.
 fn filled_parts(
     alloc: Global,
     config: &Config,
@@ -126,7 +122,6 @@ pub fn fill(alloc: Global, text: &[u8], config: &Config, before: &App, app: &App
     Ok(out)
 }
 
-// Appends `, R` for each resource of a list.
 fn write_resources(out: &mut Vec<u8>, config: &Config, holds: &[ResId]) -> Result<()>
     ensures { OnOk result
         (out.new.items ≡ out.old.items ++ flat_map (λ name. codes ", " ++ name) (resource_names config.now holds.now)) }

@@ -9,9 +9,9 @@ ghost use Rattle.holds_infer.specs.declared.inference.InferError.TheVariants.{Me
 ghost use Rattle.holds_infer.specs.RightLists.{HasItsLabels};
 ghost use Rattle.holds_infer.specs.Spread.{AreLists, relisted_label, relisted_func};
 
-use crate::spread::{Held, place_list, places};
+use crate::body_ways::{Held, place_list, places};
 use call_graph::Ranks;
-use sloth_base::{App, Config, Func, Label, List, Name, NoMemory, ResId, Result};
+use sloth_base::{App, Config, Func, Label, List, Name, NoMemory, Result};
 use std::alloc::Global;
 use task_verify::bodies::judge;
 use text_pieces::push;
@@ -32,7 +32,6 @@ impl From<NoMemory> for InferError {
     }
 }
 
-// The task code with the lists of which its right ones are, if there are some.
 fn candidate(alloc: Global, app: &App) -> Result<App>
     requires { HaveTheirLabels app.now.funcs }
     ensures funcs { IfOk result (λ other. AreBodyFillings app.now.funcs other.funcs) }

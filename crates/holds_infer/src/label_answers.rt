@@ -1,24 +1,26 @@
 //! What the lists of labels can be, or the lines that say why no lists keep the rules.
+//! The search for the least fault of task code, V7 aside.
 ghost use Rattle.std.specs.Prelude.{◌≡◌, ◌<◌, ◌⊎◌, [], length, IfOk, IfSome, ◌++◌, OnOk};
 ghost use Rattle.code_rules.specs.AppRange.{AppInRange};
 ghost use Rattle.call_graph.specs.Ranks.{RanksOf};
-ghost use Rattle.holds_infer.specs.LabelAnswers.{is_list_rule, TellsWays, TellsBrokenRule, TellsRule, TellsReason};
-ghost use Rattle.holds_infer.specs.LabelAnswers.{HasReason, IsNoListsText, IsLabelAnswer, holding_lines};
-ghost use Rattle.holds_infer.specs.LabelAnswers.{label_line, other_ways_lines, rule_line};
+ghost use Rattle.holds_infer.specs.LabelAnswers.{is_list_rule, TellsWays, TellsBrokenRule, TellsRule, TellsReason, HasReason, IsNoListsText, IsLabelAnswer, holding_lines, label_line, other_ways_lines, rule_line};
 ghost use Rattle.holds_infer.specs.RightLists.{HasItsLabels};
 ghost use Rattle.holds_infer.specs.BodyFilling.{HaveTheirLabels};
 ghost use Rattle.holds_infer.specs.WayLists.{IsWayFilling, AreWayFillings, IsWayFilled};
 
 use crate::body_ways::body_ways;
 use crate::inference::relisted_func;
-use crate::other_rules::other_rule;
 use crate::other_ways::{HoldingWay, OtherWays, other_ways};
-use crate::{FillError, fill_source};
+use crate::{FillError, Found, fill_source};
 use call_graph::Ranks;
 use command_line::code_text;
-use sloth_base::{App, Code, Config, Func, List, NoMemory, Refusal, Result};
+use fault_witnesses::KeptList;
+use fault_witnesses::body_lists::body_lists;
+use sloth_base::refusal::{fault_if, merge};
+use sloth_base::{App, Code, Config, Func, List, NoMemory, Part, Refusal, Result};
 use sloth_source::Ranked;
 use std::alloc::Global;
+use task_verify::{is_leave_with_resource, is_second_take, is_wrong_release, item_faults};
 use text_pieces::pieces::Piece::{Number, Word};
 use text_pieces::{line, push};
 use why_text::{label_line, label_name, push_list_line, push_way_line, ranked_texts, told_fault};
@@ -35,26 +37,21 @@ pub enum LabelAnswer {
 }
 
 // Lines, if there are some to tell.
-type Found = Result<Option<List<u8>>>;
+type Told = Found<List<u8>>;
 
-// ---- two ways to a label
-
-// The lines of the first two ways to a label that hold different resources, body by body.
-fn told_ways(alloc: Global, config: &Config, app: &App) -> Found
+fn told_ways(alloc: Global, config: &Config, app: &App) -> Told
     requires { AppInRange config.now app.now }
     ensures { IfOk result (λ found. IfSome found (TellsWays config.now app.now)) }
 {
     for body in 0..app.funcs.items().len() {
         let func = app.function(body);
         if let Some(ways) = other_ways(alloc, func)? {
-            let text = other_ways_lines(alloc, config, func, &ways)?;
+            let text = ways_lines(alloc, config, func, &ways)?;
             return Ok(Some(List::from_vec(text)));
         }
     }
     Ok(None)
 }
-
-// ---- a rule that is broken
 
 fn is_list_rule(code: Code) -> bool
     ensures { result ≡ is_list_rule code }
@@ -62,8 +59,7 @@ fn is_list_rule(code: Code) -> bool
     matches!(code, Code::V7)
 }
 
-// The lines of a rule other than V7 that this task code breaks.
-fn broken_rule(alloc: Global, src: &[u8], config: &Config, app: &App, ranks: &Ranks) -> Found
+fn broken_rule(alloc: Global, src: &[u8], config: &Config, app: &App, ranks: &Ranks) -> Told
     requires src { length src.now < 4294967295 }
     requires in_range { AppInRange config.now app.now }
     requires belong { RanksOf app.now ranks.now }
@@ -84,8 +80,7 @@ fn broken_rule(alloc: Global, src: &[u8], config: &Config, app: &App, ranks: &Ra
     }
 }
 
-// The lines of a rule that is broken with the lists that ways hold at the labels.
-fn filled_rule(alloc: Global, src: &[u8], ranked: &Ranked) -> Found
+fn filled_rule(alloc: Global, src: &[u8], ranked: &Ranked) -> Told
     requires src { length src.now < 4294967295 }
     requires in_range { AppInRange ranked.now.config ranked.now.app }
     requires belong { RanksOf ranked.now.app ranked.now.ranks }
@@ -98,9 +93,7 @@ fn filled_rule(alloc: Global, src: &[u8], ranked: &Ranked) -> Found
     }
 }
 
-// ---- all
-
-fn code_reason(alloc: Global, src: &[u8], ranked: &Ranked) -> Found
+fn code_reason(alloc: Global, src: &[u8], ranked: &Ranked) -> Told
     requires src { length src.now < 4294967295 }
     requires in_range { AppInRange ranked.now.config ranked.now.app }
     requires belong { RanksOf ranked.now.app ranked.now.ranks }
@@ -115,7 +108,7 @@ fn code_reason(alloc: Global, src: &[u8], ranked: &Ranked) -> Found
     }
 }
 
-fn texts_reason(alloc: Global, oil: &[u8], src: &[u8]) -> Found
+fn texts_reason(alloc: Global, oil: &[u8], src: &[u8]) -> Told
     requires oil { length oil.now < 4294967295 }
     requires src { length src.now < 4294967295 }
     ensures { IfOk result (λ found. IfSome found (HasReason oil.now src.now)) }
@@ -209,13 +202,7 @@ fn push_holding(text: &mut Vec<u8>, config: &Config, func: &Func, way: &HoldingW
     push_list_line(text, config, b"holds", way.held.items())
 }
 
-/// The lines of two ways to a label.
-pub fn other_ways_lines(
-    alloc: Global,
-    config: &Config,
-    func: &Func,
-    ways: &OtherWays,
-) -> Result<Vec<u8>>
+fn ways_lines(alloc: Global, config: &Config, func: &Func, ways: &OtherWays) -> Result<Vec<u8>>
     ensures { IfOk result (λ text. text.items ≡ other_ways_lines config.now func.now ways.now) }
 {
     let mut text = Vec::new(alloc);
@@ -232,12 +219,56 @@ fn push_rule(text: &mut Vec<u8>, refusal: Refusal) -> Result<()>
     line!(text; Word(b"rule "), Number(refusal.line), Word(b" "), Word(code_text(refusal.code)), Word(b"\n"))
 }
 
-/// The line of a rule, and these lines.
-pub fn rule_lines(alloc: Global, refusal: Refusal, behind: &[u8]) -> Result<Vec<u8>>
+fn rule_lines(alloc: Global, refusal: Refusal, behind: &[u8]) -> Result<Vec<u8>>
     ensures { IfOk result (λ text. text.items ≡ rule_line refusal ++ behind.now) }
 {
     let mut text = Vec::new(alloc);
     push_rule(&mut text, refusal)?;
     line!(&mut text; Word(behind))?;
     Ok(text)
+}
+
+// V8 to V10 of the items whose lists are kept. Where a list is too long to be kept, V9 is broken in front.
+fn held_faults(ranks: &Ranks, func: &Func, rows: &[KeptList]) -> Option<Refusal> {
+    let mut least = None;
+    for (number, item) in func.items.items().iter().enumerate() {
+        if number < rows.len() && rows[number].kept {
+            let held = rows[number].list.items();
+            let line = item.line;
+            let releases = is_wrong_release(held, item.op);
+            least = merge(least, fault_if(releases, Part::Src, line, Code::V8));
+            let takes = is_second_take(ranks, held, item.op);
+            least = merge(least, fault_if(takes, Part::Src, line, Code::V9));
+            let leaves = is_leave_with_resource(ranks, held, item.op);
+            least = merge(least, fault_if(leaves, Part::Src, line, Code::V10));
+        }
+    }
+    least
+}
+
+fn judge(alloc: Global, config: &Config, app: &App, ranks: &Ranks, body: usize) -> Found<Refusal>
+    requires in_range { AppInRange config.now app.now }
+    requires belong { RanksOf app.now ranks.now }
+    requires known { body < length app.now.funcs }
+{
+    let func = app.function(body);
+    let users = u64::from(ranks.users.items()[body]);
+    let none = func.items.items().is_empty();
+    let empty = fault_if(none, Part::Src, func.line, Code::V5);
+    let items = item_faults(alloc, config, app, body, users, func)?;
+    let tables = body_lists(alloc, func)?;
+    let held = held_faults(ranks, func, tables.lists.items());
+    Ok(merge(empty, merge(items, held)))
+}
+
+// The least of V2 to V6 and V8 to V12.
+fn other_rule(alloc: Global, config: &Config, app: &App, ranks: &Ranks) -> Found<Refusal>
+    requires in_range { AppInRange config.now app.now }
+    requires belong { RanksOf app.now ranks.now }
+{
+    let mut least = None;
+    for body in 0..app.funcs.items().len() {
+        least = merge(least, judge(alloc, config, app, ranks, body)?);
+    }
+    Ok(least)
 }

@@ -6,18 +6,21 @@
 //! with the lists that ways hold (`specs/LabelAnswers`).
 #![tactic(auto)]
 
+use sloth_base::Result;
+
 mod body_ways;
 mod filling;
 mod inference;
 mod label_answers;
 mod laws;
-mod other_rules;
 mod other_ways;
 pub mod sources;
-mod spread;
 
 pub use filling::fill;
 pub use inference::{InferError, infer};
 pub use label_answers::{LabelAnswer, labels_text};
 pub use laws::{filled_is_accepted, lists_alone, one_filling, one_source, ways_exclude_lists};
 pub use sources::{FillError, fill_source};
+
+// What was found, if something was.
+type Found<T> = Result<Option<T>>;

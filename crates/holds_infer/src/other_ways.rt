@@ -6,6 +6,7 @@ ghost use Rattle.sloth_base.specs.Named.{item_of};
 ghost use Rattle.code_rules.specs.Code.{IsPathStep};
 ghost use Rattle.fault_witnesses.specs.CleanWays.{is_orderly};
 
+use crate::Found;
 use crate::body_ways::{Step, body_ways, resources};
 use fault_witnesses::is_orderly;
 use sloth_base::{Func, List, Result};
@@ -19,17 +20,6 @@ pub struct OtherWays {
     pub label: usize,
     pub one: HoldingWay,
     pub other: HoldingWay,
-}
-
-fn first_label(func: &Func, place: usize) -> Option<usize>
-    ensures { IfSome result (λ k. k < length func.now.labels) }
-{
-    for (number, label) in func.labels.items().iter().enumerate() {
-        if label.item as usize == place {
-            return Some(number);
-        }
-    }
-    None
 }
 
 // The items of the first way to an item, and the item itself, found from that one back.
@@ -48,19 +38,15 @@ fn way_through(alloc: Global, before: &[usize], item: usize) -> Result<Vec<usize
 }
 
 // The two ways that meet, if they lead to the label and hold different resources.
-fn meeting_ways(
-    alloc: Global,
-    func: &Func,
-    before: &[usize],
-    meeting: Step,
-) -> Result<Option<OtherWays>>
+fn meeting_ways(alloc: Global, func: &Func, before: &[usize], meeting: Step) -> Found<OtherWays>
     requires { HasItsLabels func.now }
     ensures { IfOk result (λ found. IfSome found (AreOtherWays func.now)) }
 {
-    let Some(label) = first_label(func, meeting.place) else {
+    let (labels, place) = (func.labels.items(), meeting.place);
+    let Some(label) = labels.iter().position(|label| label.item as usize == place) else {
         return Ok(None);
     };
-    let place = func.labels.items()[label].item as usize;
+    let place = labels[label].item as usize;
     let mut way = way_through(alloc, before, meeting.place)?;
     way.pop();
     let Some(one) = holding_way(alloc, func, place, way)? else {
@@ -78,7 +64,7 @@ fn meeting_ways(
 }
 
 /// The first two ways through a body that meet at a label with different resources held, if some do.
-pub fn other_ways(alloc: Global, func: &Func) -> Result<Option<OtherWays>>
+pub fn other_ways(alloc: Global, func: &Func) -> Found<OtherWays>
     requires { HasItsLabels func.now }
     ensures { IfOk result (λ found. IfSome found (AreOtherWays func.now)) }
 {
@@ -97,7 +83,6 @@ pub struct HoldingWay {
     pub held: List<u32>,
 }
 
-// Item `number` of a way, and behind its last one the goal.
 fn way_place(way: &[usize], goal: usize, number: usize) -> usize
     ensures { result ≡ way_place way.now goal number }
 {
@@ -107,7 +92,6 @@ fn way_place(way: &[usize], goal: usize, number: usize) -> usize
     }
 }
 
-// Whether the way begins with the first item, or without items at the body's begin.
 fn starts(way: &[usize], goal: usize) -> bool
     ensures { result ≡ true → way_place way.now goal 0 ≡ 0 }
 {
@@ -135,8 +119,7 @@ fn leads(func: &Func, held: &[u32], item: usize, place: usize) -> bool
         && goes(func, item, place)
 }
 
-// What is held behind the items of a way, if it leads to the goal.
-fn held_on_way(alloc: Global, func: &Func, goal: usize, way: &[usize]) -> Result<Option<List<u32>>>
+fn held_on_way(alloc: Global, func: &Func, goal: usize, way: &[usize]) -> Found<List<u32>>
     requires { HasItsLabels func.now }
     ensures { IfOk result (λ found. IfSome found (HoldsOnWay func.now goal way.now)) }
 {
@@ -156,12 +139,7 @@ fn held_on_way(alloc: Global, func: &Func, goal: usize, way: &[usize]) -> Result
 
 /// The way with what its items hold, if it leads from the first item of the body to the goal and keeps the rules on
 /// resources.
-pub fn holding_way(
-    alloc: Global,
-    func: &Func,
-    goal: usize,
-    way: Vec<usize>,
-) -> Result<Option<HoldingWay>>
+pub fn holding_way(alloc: Global, func: &Func, goal: usize, way: Vec<usize>) -> Found<HoldingWay>
     requires { HasItsLabels func.now }
     ensures { IfOk result (λ found. IfSome found (IsHoldingWay func.now goal)) }
 {

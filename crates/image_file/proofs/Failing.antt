@@ -9,10 +9,10 @@ use Rattle.image_file.specs.Faults.{IsImageErrorOf, HasMagic}
 use Rattle.image_file.specs.Reading.{HasSizes, IsNamesError, NoNames, IsPartsError}
 use Rattle.image_file.specs.declared.header.Sizes.{Sizes}
 use Rattle.image_file.proofs.Parted.{body_of}
-use Rattle.image_file.specs.declared.fault.ImageFault.{ImageFault}
-use Rattle.image_file.specs.declared.fault.ImageFault.TheVariants as fault
-use Rattle.image_file.specs.declared.fault.FileError.{FileError}
-use Rattle.image_file.specs.declared.fault.FileError.TheVariants as failure
+use Rattle.image_file.specs.declared.read.ImageFault.{ImageFault}
+use Rattle.image_file.specs.declared.read.ImageFault.TheVariants as fault
+use Rattle.image_file.specs.declared.read.FileError.{FileError}
+use Rattle.image_file.specs.declared.read.FileError.TheVariants as failure
 
 -- names that are missing are a fault of the parts, where without them none stand there
 pub names_fail : (f : FileError ImageFault) (file : List ℕ) (at count place : ℕ) (s : Sizes)

@@ -136,6 +136,11 @@ counted_long file s magic has = by s.counters has.are has.long
     by zero are long = let last : 49 ≡ 50 = ap (λ x. get_or x 7 0) (sym (ap (λ x. take 8 x) are) ∙ magic) in omega (arith, last)
     by (suc n) are long = long
 
+-- the magic that is not the plain one is that with counters
+pub counted_magic : (file : List ℕ) → HasMagic file → (¬ (take 8 file ≡ codes "SLOTHIM1")) → take 8 file ≡ codes "SLOTHIM2"
+counted_magic file (inl plain) other = absurd (other plain)
+counted_magic file (inr counted) other = counted
+
 -- and counters
 pub none_counted : (file : List ℕ) (t f : ℕ) (rest : List ℕ) → t < 2 ^ 32 → f < 2 ^ 32
     → file ≡ codes "SLOTHIM2" ++ (four_bytes t ++ (four_bytes f ++ (four_bytes 0 ++ rest))) → NoSizes file

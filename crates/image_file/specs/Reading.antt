@@ -7,10 +7,10 @@ use Rattle.image_file.specs.ImageText.{mark_bytes, name_bytes}
 use Rattle.image_file.specs.Limits.{SizesFit, header_size}
 use Rattle.image_file.specs.Parts.{Parts, HasParts, PartsStand, AreRight, header_before}
 use Rattle.image_file.specs.declared.header.Sizes.{Sizes}
-use Rattle.image_file.specs.declared.fault.ImageFault.TheVariants as fault
-use Rattle.image_file.specs.declared.fault.ImageFault.{ImageFault}
-use Rattle.image_file.specs.declared.fault.FileError.{FileError}
-use Rattle.image_file.specs.declared.fault.FileError.TheVariants as failure
+use Rattle.image_file.specs.declared.read.ImageFault.TheVariants as fault
+use Rattle.image_file.specs.declared.read.ImageFault.{ImageFault}
+use Rattle.image_file.specs.declared.read.FileError.{FileError}
+use Rattle.image_file.specs.declared.read.FileError.TheVariants as failure
 
 -- the header holds these numbers, within the limits
 pub record HasSizes (file : List ℕ) (sizes : Sizes) : Type 0 where

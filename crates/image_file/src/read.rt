@@ -1,20 +1,21 @@
-//! Reading an image. Where a file ends. The services that marks may name.
-//! Names in a file: a length byte each, and that many bytes.
+//! Reading an image, and its names: a length byte each, and that many bytes. What may be wrong with an image file and
+//! with an ELF file.
 ghost use Rattle.std.specs.Prelude.{◌⊎◌, ◌≡◌, ◌≤◌, IfOk, IfErr, length, ◌<◌, true, false, ◌≢◌, ◌++◌, ◌↔◌, ℕ, List as Sequence, IfSome, IfNone, IsTrue, Decides, Contains, drop};
 ghost use Rattle.image_file.specs.ImageText.{ImageText, name_bytes};
 ghost use Rattle.image_file.specs.Faults.{IsImageErrorOf, IsFirstImageFault};
 ghost use Rattle.image_file.specs.Limits.{SizesFit};
 ghost use Rattle.image_file.specs.Reading.{AreLastMarks, HasOutline, NamedPartsStand, IsPartsError, NamesStand, IsNamesError, NameEnds};
 ghost use Rattle.sloth_base.specs.declared.image.Image.{Image as ImageOf};
-ghost use Rattle.image_file.specs.declared.fault.ImageFault.{ImageFault as FaultOf};
-ghost use Rattle.image_file.specs.declared.fault.FileError.TheVariants as failed_by;
+ghost use Rattle.image_file.specs.declared.read.ImageFault.{ImageFault as FaultOf};
+ghost use Rattle.image_file.specs.declared.read.FileError.TheVariants as failed_by;
 ghost use Rattle.sloth_base.specs.ImageRange.{service_limit, AreNames, AreNamesApart};
 ghost use Rattle.image_file.specs.Parts.{AreRightNames};
+ghost use Rattle.image_file.specs.declared.read.FileError.TheVariants.{Fault, Memory};
 
 use crate::header::{has_magic, read_sizes};
-use crate::{ImageError, ImageFault, Sizes, are_ascending, read_marks};
-use sloth_base::{Image, List, Mark, Name, is_name};
-use std::alloc::Global;
+use crate::{Sizes, are_ascending, read_marks};
+use sloth_base::{Image, List, Mark, Name, NoMemory, is_name};
+use std::alloc::{AllocError, AllocFailed, Global};
 
 /// The image of a file, or the file's first fault.
 pub fn read_image(alloc: Global, bytes: &[u8]) -> Result<Image, ImageError>
@@ -99,20 +100,15 @@ fn last_marks(alloc: Global, bytes: &[u8], outline: &Outline) -> Result<Vec<Mark
     if !are_right_names(&outline.tasks, &outline.funcs, &outline.counters) {
         return Err(ImageFault::I3.into());
     }
-    let place = outline.memory + outline.size;
-    let marks = read_marks(
-        alloc,
-        bytes,
-        place,
-        outline.count,
-        service_limit(outline.counters.len()),
-        outline.funcs.len(),
-        outline.size,
-    )?;
+    let (count, size) = (outline.count, outline.size);
+    let place = outline.memory + size;
+    let services = service_limit(outline.counters.len());
+    let funcs = outline.funcs.len();
+    let marks = read_marks(alloc, bytes, place, count, services, funcs, size)?;
     if !are_ascending(&marks) {
         return Err(ImageFault::I4.into());
     }
-    if is_followed(bytes, place + outline.count * 12) {
+    if is_followed(bytes, place + count * 12) {
         return Err(ImageFault::I5.into());
     }
     Ok(marks)
@@ -219,4 +215,95 @@ pub fn are_right_names(tasks: &[Name], funcs: &[Name], counters: &[Name]) -> boo
     ensures { Decides result (AreRightNames tasks.now funcs.now counters.now) }
 {
     are_names(tasks) && are_names(funcs) && are_names(counters) && are_apart(counters, tasks)
+}
+
+/// A fault of a file, by its code. The first in this order is told.
+#[derive(Clone, Copy)]
+pub enum ImageFault {
+    /// The first eight bytes are not those of a format.
+    I1,
+    /// The file ends inside a part, or a number of the header is out of its limits.
+    I2,
+    /// A name is no word of 1 to 64 bytes, two tasks, two functions, two counters, or a counter and a task have one
+    /// name, or a mark is out of range.
+    I3,
+    /// The marks' addresses do not rise.
+    I4,
+    /// Bytes follow the last mark.
+    I5,
+}
+
+/// Why no image was read: for one of these faults of the file, or for want of memory.
+#[derive(Clone, Copy)]
+pub enum FileError<F> {
+    Fault(F),
+    Memory,
+}
+
+/// Why no image was read from an image file.
+pub type ImageError = FileError<ImageFault>;
+
+impl From<ImageFault> for ImageError {
+    ghost from_gives = { λ fault e. e ≡ Fault fault };
+
+    fn from(fault: ImageFault) -> ImageError {
+        ImageError::Fault(fault)
+    }
+}
+
+impl<F> From<NoMemory> for FileError<F> {
+    ghost from_gives = { λ _ e. e ≡ Memory };
+
+    fn from(_: NoMemory) -> FileError<F> {
+        FileError::Memory
+    }
+}
+
+impl<F> From<AllocError> for FileError<F> {
+    ghost from_gives = { λ _ e. e ≡ Memory };
+
+    fn from(_: AllocError) -> FileError<F> {
+        FileError::Memory
+    }
+}
+
+impl<T: Drop, F> From<AllocFailed<T>> for FileError<F> {
+    ghost from_gives = { λ _ e. e ≡ Memory };
+
+    fn from(_: AllocFailed<T>) -> FileError<F> {
+        FileError::Memory
+    }
+}
+
+/// A fault of a file, by its code. The first in this order is told.
+#[derive(Clone, Copy)]
+pub enum ElfFault {
+    /// The first four bytes are not those of an ELF file.
+    E1,
+    /// The file has fewer than 116 bytes.
+    E2,
+    /// The ELF header is not that of an image.
+    E3,
+    /// The first program header is not that of an image's memory.
+    E4,
+    /// The second program header is not that of an image's note.
+    E5,
+    /// The file does not end where the note does.
+    E6,
+    /// The note is not an image's, ends inside a part, or has a number that is out of its limits.
+    E7,
+    /// A name is no word of 1 to 64 bytes, two tasks, two functions, two counters, or a counter and a task have one
+    /// name, a mark is out of range, or the marks' addresses do not rise.
+    E8,
+}
+
+/// Why no image was read from an ELF file.
+pub type ElfError = FileError<ElfFault>;
+
+impl From<ElfFault> for ElfError {
+    ghost from_gives = { λ fault e. e ≡ Fault fault };
+
+    fn from(fault: ElfFault) -> ElfError {
+        FileError::Fault(fault)
+    }
 }

@@ -2,8 +2,8 @@
 use Rattle.std.proofs.Common.{◌≡◌, ◌≤◌, ◌<◌, ◌+◌, ◌∙◌, inl, inr, ℕ, List, [], ◌∷◌, ◌++◌, Option, None, Some, refl, sym, ap, subst, arith}
 use Rattle.std.proofs.lemmas.Bool.Decides.{leb_tells}
 use Rattle.std.proofs.lemmas.List.{append-nil}
-use Rattle.lane_drawing.specs.declared.bars.Bar.{Bar}
-use Rattle.lane_drawing.specs.declared.bars.Look.{Look}
+use Rattle.lane_drawing.specs.declared.drawing.Bar.{Bar}
+use Rattle.lane_drawing.specs.declared.drawing.Look.{Look}
 use Rattle.lane_drawing.specs.Bars.{IsEmpty, IsBar, AreBars}
 use Rattle.lane_drawing.specs.Strips.{Lane, bar_of, last_bar, EndBelow, HasEndedBars, IsStrip}
 

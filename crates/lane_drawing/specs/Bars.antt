@@ -1,7 +1,7 @@
 -- The bars of a lane: its longest stretches of counts that show the same.
 use Rattle.std.specs.Prelude.{ℕ, ◌≡◌, ◌<◌, ◌≤◌, List, [], ◌∷◌, Option, Some, None}
-use Rattle.lane_drawing.specs.declared.bars.Bar.{Bar}
-use Rattle.lane_drawing.specs.declared.bars.Look.{Look}
+use Rattle.lane_drawing.specs.declared.drawing.Bar.{Bar}
+use Rattle.lane_drawing.specs.declared.drawing.Look.{Look}
 
 -- nothing is shown at the counts from one to below another
 abbrev pub IsEmpty : (looks : ℕ → Option Look) (from to : ℕ) → Type 0

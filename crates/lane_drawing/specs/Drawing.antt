@@ -1,9 +1,9 @@
 -- The drawing of a picture: SVG 1.1, a line for each element.
 use Rattle.std.specs.Prelude.{ℕ, ◌+◌, ◌-◌, ◌*◌, ◌/◌, ◌==◌, ltb, Bool, ◌||◌, ◌&&◌, List, [], ◌∷◌, ◌++◌, codes, decimal, slice_index}
 use Rattle.std.specs.List.{flat_map, range_with_len}
-use Rattle.lane_drawing.specs.declared.bars.Bar.{Bar}
-use Rattle.lane_drawing.specs.declared.bars.Look.{Look}
-use Rattle.lane_drawing.specs.declared.bars.Look.TheVariants as look
+use Rattle.lane_drawing.specs.declared.drawing.Bar.{Bar}
+use Rattle.lane_drawing.specs.declared.drawing.Look.{Look}
+use Rattle.lane_drawing.specs.declared.drawing.Look.TheVariants as look
 use Rattle.lane_drawing.specs.declared.scale.Scale.{Scale}
 use Rattle.lane_drawing.specs.Scale.{place, pixels, axis_step, first_multiple, last_multiple}
 

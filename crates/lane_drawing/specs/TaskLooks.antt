@@ -2,8 +2,8 @@
 use Rattle.std.specs.Prelude.{Bool, cond, Option, Some, None}
 use Rattle.osek_scheduler.specs.declared.state.TaskState.{TaskState}
 use Rattle.osek_scheduler.specs.declared.state.TaskState.TheVariants as mode
-use Rattle.lane_drawing.specs.declared.bars.Look.{Look}
-use Rattle.lane_drawing.specs.declared.bars.Look.TheVariants as look
+use Rattle.lane_drawing.specs.declared.drawing.Look.{Look}
+use Rattle.lane_drawing.specs.declared.drawing.Look.TheVariants as look
 
 -- of an Active task: it runs, and its own code is executed or the kernel's; or another one runs
 abbrev pub active_look : (runs kernel : Bool) → Look

@@ -1,8 +1,7 @@
 //! What stands round the lanes: the size, the looks, the axis and the legend.
 ghost use Rattle.std.specs.Prelude.{◌≡◌, ◌≤◌, ◌++◌, OnOk, map};
 ghost use Rattle.lane_drawing.specs.Scale.{IsScale, first_multiple, last_multiple};
-ghost use Rattle.lane_drawing.specs.Drawing.{all_lines, head_line, head_lines, count_line, axis_line};
-ghost use Rattle.lane_drawing.specs.Drawing.{axis_lines, legend_lines};
+ghost use Rattle.lane_drawing.specs.Drawing.{all_lines, head_line, head_lines, axis_line, axis_lines, legend_lines};
 
 use crate::Scale;
 use crate::scale::push_pixels;
@@ -11,25 +10,17 @@ use text_pieces::line;
 use text_pieces::pieces::Piece::{Number, Word};
 use trace_text::LineText;
 
-// The first line, with the size in pixels: so many rows behind the axis, and the legend.
 #[tactic(auto, unfolding(crate::specs::Drawing::head_line))]
-fn head_line(scale: Scale, rows: u32) -> LineText
+fn push_size(text: &mut Vec<u8>, scale: Scale, rows: u32) -> Result<()>
     requires scale { IsScale scale }
     requires rows { rows ≤ 33 }
-    ensures { result ≡ head_line scale rows }
+    ensures { OnOk result (text.new.items ≡ text.old.items ++ head_line scale rows) }
 {
     let (width, height) = (scale.left + 1052, 122 + 40 * rows);
-    let mut line = LineText::new();
-    line.push(b"<svg xmlns=\"http://www.w3.org/2000/svg\" width=\"");
-    line.push_number(width);
-    line.push(b"\" height=\"");
-    line.push_number(height);
-    line.push(b"\" viewBox=\"0 0 ");
-    line.push_number(width);
-    line.push(b" ");
-    line.push_number(height);
-    line.push(b"\" font-family=\"system-ui, sans-serif\" font-size=\"13\">\n");
-    line
+    line!(text;
+        Word(b"<svg xmlns=\"http://www.w3.org/2000/svg\" width=\""), Number(width), Word(b"\" height=\""),
+        Number(height), Word(b"\" viewBox=\"0 0 "), Number(width), Word(b" "), Number(height),
+        Word(b"\" font-family=\"system-ui, sans-serif\" font-size=\"13\">\n"))
 }
 
 // How each class looks, on light and on dark screens, that paper has the whole width, what is behind all, and the unit
@@ -82,22 +73,23 @@ pub fn push_head(text: &mut Vec<u8>, scale: Scale, rows: u32) -> Result<()>
     requires rows { rows ≤ 33 }
     ensures { OnOk result (text.new.items ≡ text.old.items ++ head_lines scale rows) }
 {
-    text.extend_from_slice(head_line(scale, rows).bytes())?;
+    push_size(text, scale, rows)?;
     push_lines(text, &STYLE)?;
     line!(text;
         Word(b"<text x=\""), Number(scale.left), Word(b"\" y=\"16\">counts "), Number(scale.from),
         Word(b" to "), Number(scale.to), Word(b"</text>\n"))
 }
 
-// A count on the axis, with a line down through so many rows.
-#[tactic(auto, unfolding(crate::specs::Drawing::count_line))]
-fn count_line(scale: Scale, rows: u32, count: u32) -> LineText
+// A multiple of the axis' step, with a line down through so many rows.
+#[tactic(auto, unfolding(crate::specs::Drawing::axis_line, crate::specs::Drawing::count_line))]
+fn axis_line(scale: Scale, rows: u32, i: u32) -> LineText
     requires scale { IsScale scale }
     requires rows { rows ≤ 33 }
-    requires behind { scale.from ≤ count }
-    requires within { count ≤ scale.to }
-    ensures { result ≡ count_line scale rows count }
+    requires behind { first_multiple scale ≤ i }
+    requires within { i ≤ last_multiple scale }
+    ensures { result ≡ axis_line scale rows i }
 {
+    let count = i * scale.axis_step();
     let mut line = LineText::new();
     line.push(b"<path class=\"g\" d=\"M");
     push_pixels(&mut line, scale.place(count));
@@ -109,18 +101,6 @@ fn count_line(scale: Scale, rows: u32, count: u32) -> LineText
     line.push_number(count);
     line.push(b"</text>\n");
     line
-}
-
-// The line of a multiple of the axis' step.
-#[tactic(auto, unfolding(crate::specs::Drawing::axis_line))]
-fn axis_line(scale: Scale, rows: u32, i: u32) -> LineText
-    requires scale { IsScale scale }
-    requires rows { rows ≤ 33 }
-    requires behind { first_multiple scale ≤ i }
-    requires within { i ≤ last_multiple scale }
-    ensures { result ≡ axis_line scale rows i }
-{
-    count_line(scale, rows, i * scale.axis_step())
 }
 
 /// Appends the axis.
@@ -135,7 +115,6 @@ pub fn push_axis(text: &mut Vec<u8>, scale: Scale, rows: u32) -> Result<()>
     Ok(())
 }
 
-// What the looks and the marks mean.
 const LEGEND: [&[u8]; 12] = [
     b"<rect class=\"run\" x=\"0\" y=\"0\" width=\"28\" height=\"24\"/><text x=\"36\" y=\"16\">runs</text>\n",
     b"<rect class=\"ser\" x=\"96\" y=\"0\" width=\"28\" height=\"24\"/><text x=\"132\" y=\"16\">runs kernel code</text>\n",

@@ -1,9 +1,9 @@
-//! Where counts stand in a picture. An arrival in a lane.
+//! Where counts stand in a picture, and the lines of arrivals and marks.
 ghost use Rattle.std.specs.Prelude.{◌≡◌, ◌≤◌, ◌+◌, ◌++◌, length};
 ghost use Rattle.sloth_base.specs.Limits.{picture_limit, count_limit, name_limit};
-ghost use Rattle.lane_drawing.specs.Scale.{IsScale, span, place, pixels, axis_step, steps, first_step, first_multiple};
-ghost use Rattle.lane_drawing.specs.Scale.{last_multiple};
+ghost use Rattle.lane_drawing.specs.Scale.{IsScale, span, place, pixels, axis_step, steps, first_step, first_multiple, last_multiple};
 ghost use Rattle.lane_drawing.specs.Arrivals.{arrival_class, arrival_end, arrival_line};
+ghost use Rattle.lane_drawing.specs.Marks.{arrow_head, arrow_line, expiry_line};
 
 use sloth_base::Arrival;
 use trace_text::LineText;
@@ -118,23 +118,17 @@ fn arrival_end(lost: bool) -> &'static [u8]
     if lost { b", lost" } else { b"" }
 }
 
-/// An arrival in the lane of a name, at its moment: hollow, where it is lost.
+/// An arrival at its moment in the lane of a name, whose axis is so many pixels from the top: hollow, where it is lost.
 #[tactic(auto, unfolding(crate::specs::Arrivals::arrival_line))]
-pub fn arrival_line(
-    scale: Scale,
-    name: &[u8],
-    middle: u32,
-    arrival: &Arrival,
-    lost: bool,
-) -> LineText
+pub fn arrival_line(scale: Scale, name: &[u8], axis: u32, arrival: &Arrival, lost: bool) -> LineText
     requires scale { IsScale scale }
     requires name { length name.now ≤ name_limit }
-    requires low { 13 ≤ middle }
+    requires low { 13 ≤ axis }
     requires behind { scale.from ≤ arrival.now.at }
     requires within { arrival.now.at ≤ scale.to }
-    ensures { result ≡ arrival_line scale name.now middle arrival.now lost }
+    ensures { result ≡ arrival_line scale name.now axis arrival.now lost }
 {
-    let (left, top) = (scale.place(arrival.at), middle - 13);
+    let (left, top) = (scale.place(arrival.at), axis - 13);
     let mut line = LineText::new();
     line.push(b"<path class=\"");
     line.push(arrival_class(lost));
@@ -147,6 +141,78 @@ pub fn arrival_line(
     line.push(b" arrives at ");
     line.push_number(arrival.at);
     line.push(arrival_end(lost));
+    line.push(b"</title></path>\n");
+    line
+}
+
+fn arrow_head(down: bool) -> &'static [u8]
+    ensures is { result.now ≡ arrow_head down }
+    ensures short { length result.now ≤ 16 }
+{
+    if down {
+        b"m-3 -6l3 6l3 -6z"
+    } else {
+        b"m-3 6l3 -6l3 6z"
+    }
+}
+
+/// A thin line at a count, from one height to another, with a head there: it says who does what to a task.
+#[tactic(auto, unfolding(crate::specs::Marks::arrow_line))]
+pub fn arrow_line(
+    scale: Scale,
+    at: u32,
+    by: &[u8],
+    from: u32,
+    does: &[u8],
+    task: &[u8],
+    to: u32,
+) -> LineText
+    requires scale { IsScale scale }
+    requires by { length by.now ≤ name_limit }
+    requires does { length does.now ≤ 11 }
+    requires task { length task.now ≤ name_limit }
+    requires behind { scale.from ≤ at }
+    requires within { at ≤ scale.to }
+    ensures { result ≡ arrow_line scale at by.now from does.now task.now to }
+{
+    let left = scale.place(at);
+    let mut line = LineText::new();
+    line.push(b"<path class=\"m\" d=\"M");
+    push_pixels(&mut line, left);
+    line.push(b" ");
+    line.push_number(from);
+    line.push(b"V");
+    line.push_number(to);
+    line.push(arrow_head(from < to));
+    line.push(b"\"><title>");
+    line.push(by);
+    line.push(does);
+    line.push(task);
+    line.push(b" at ");
+    line.push_number(at);
+    line.push(b"</title></path>\n");
+    line
+}
+
+/// A rhomb at the tick that an alarm expires at, below the bars of a lane.
+#[tactic(auto, unfolding(crate::specs::Marks::expiry_line))]
+pub fn expiry_line(scale: Scale, at: u32, alarm: u32, middle: u32) -> LineText
+    requires scale { IsScale scale }
+    requires low { middle ≤ 2000 }
+    requires behind { scale.from ≤ at }
+    requires within { at ≤ scale.to }
+    ensures { result ≡ expiry_line scale at alarm middle }
+{
+    let (left, top) = (scale.place(at), middle + 10);
+    let mut line = LineText::new();
+    line.push(b"<path class=\"a\" d=\"M");
+    push_pixels(&mut line, left);
+    line.push(b" ");
+    line.push_number(top);
+    line.push(b"l4 4l-4 4l-4 -4z\"><title>alarm ");
+    line.push_number(alarm);
+    line.push(b" expires at ");
+    line.push_number(at);
     line.push(b"</title></path>\n");
     line
 }

@@ -6,7 +6,5 @@
 #![tactic(auto)]
 
 pub mod load_line;
-pub mod reading;
 
-pub use load_line::{Entry, Form, deadline_of, distance_of, work_of};
-pub use reading::read_load;
+pub use load_line::{Entry, Form, deadline_of, distance_of, read_load, work_of};

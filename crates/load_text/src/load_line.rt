@@ -1,14 +1,18 @@
-//! A line of a load, and its faults: L1 to L4. What one line of a load says. What a load says of a line or a task.
-ghost use Rattle.std.specs.Prelude.{◌≡◌, ◌≤◌};
+//! Reads loads: what a line says, and its faults, L1 to L4; what a load says of a line or a task.
+ghost use Rattle.std.specs.Prelude.{◌≡◌, ◌≤◌, ◌<◌, ◌^◌, ◌∷◌, [], ◌++◌, length, map, IfOk, IfErr, OnOk};
 ghost use Rattle.std.specs.List.{list_any};
 ghost use Rattle.sloth_base.specs.Search.{IsSearchResult};
 ghost use Rattle.text_pieces.specs.Digits.{capped_value};
-ghost use Rattle.load_text.specs.LoadText.{load_limit, form_named, is_entry, form_of, number_of, owner_by, owner_of, entry_of, is_of, is_said, is_outside, is_l1, is_l2, is_l3, is_l4, LineFault, owner_text, number_text, form_text};
-ghost use Rattle.load_text.specs.Loads.{said, distance, work, deadline};
+ghost use Rattle.load_text.specs.LoadText.{load_limit, form_named, is_entry, form_of, number_of, owner_of, entry_of, is_of, is_said, is_l1, is_l2, is_l3, is_l4, LineFault, owner_text, number_text, form_text, entries_of, load_in, LinesFault, LoadFault};
+ghost use Rattle.load_text.specs.Loads.{said, distance, work, deadline, IsLoad};
+ghost use Rattle.sloth_base.specs.Order.{ErrorIs, NoFault};
+ghost use Rattle.text_pieces.specs.Names.{referent};
+ghost use Rattle.trace_text.specs.ArrivalsText.{owners_read};
 
-use sloth_base::least_fault::{fault_if, merge};
-use sloth_base::{Code, Line, Name, Part, Refusal};
-use text_pieces::{before, behind, is_name, same, value};
+use sloth_base::refusal::{fault_if, merge};
+use sloth_base::{BuildError, Code, Line, Name, Part, Refusal};
+use std::alloc::Global;
+use text_pieces::{before, behind, is_name, lines, push, same, value};
 use trace_text::{are_digits, is_comment, owner_line, task_line};
 
 /// The form that a word names.
@@ -58,10 +62,7 @@ pub fn is_entry(line: &[u8]) -> bool
 fn line_form(line: &[u8]) -> Form
     ensures { result ≡ form_of line.now }
 {
-    match form_named(form_text(line)) {
-        Some(form) => form,
-        None => Form::Every,
-    }
+    form_named(form_text(line)).unwrap_or(Form::Every)
 }
 
 // The number, or a greater one than is in range.
@@ -72,20 +73,15 @@ fn number(line: &[u8]) -> u64
     value(number_text(line), 10)
 }
 
-// The line of the owner of a name, for a form.
-fn named_owner(tasks: &[Name], counters: &[Name], form: Form, name: &[u8]) -> Option<u8>
-    ensures { result ≡ owner_by tasks.now counters.now form name.now }
-{
-    match form {
-        Form::Every => owner_line(tasks, counters, name),
-        Form::Work | Form::Deadline => task_line(tasks, name),
-    }
-}
-
+// The line of the owner that it names.
 fn line_owner(tasks: &[Name], counters: &[Name], line: &[u8]) -> Option<u8>
     ensures { result ≡ owner_of tasks.now counters.now line.now }
 {
-    named_owner(tasks, counters, line_form(line), owner_text(line))
+    let name = owner_text(line);
+    match line_form(line) {
+        Form::Every => owner_line(tasks, counters, name),
+        Form::Work | Form::Deadline => task_line(tasks, name),
+    }
 }
 
 /// The entry of a line, whose number is at most `LOAD_LIMIT`.
@@ -117,10 +113,7 @@ pub fn concerns(form: Form, owner: u8, entry: &Entry) -> bool
 fn is_said(before: &[Entry], form: Form, owner: Option<u8>) -> bool
     ensures { result ≡ is_said before.now form owner }
 {
-    match owner {
-        Some(owner) => is_pair_said(before, form, owner),
-        None => false,
-    }
+    owner.is_some_and(|owner| is_pair_said(before, form, owner))
 }
 
 fn is_pair_said(before: &[Entry], form: Form, owner: u8) -> bool
@@ -151,17 +144,11 @@ fn is_l3(tasks: &[Name], counters: &[Name], before: &[Entry], line: &[u8]) -> bo
 }
 
 // A number out of range.
-fn is_outside(line: &[u8]) -> bool
-    ensures { result ≡ is_outside line.now }
-{
-    let number = number(line);
-    number < 1 || u64::from(LOAD_LIMIT) < number
-}
-
 fn is_l4(line: &[u8]) -> bool
     ensures { result ≡ is_l4 line.now }
 {
-    is_entry(line) && is_outside(line)
+    let number = number(line);
+    is_entry(line) && (number < 1 || u64::from(LOAD_LIMIT) < number)
 }
 
 /// The least fault of a line that these entries stand before.
@@ -204,6 +191,9 @@ pub struct Entry {
     pub number: u32,
 }
 
+/// A load that is read.
+pub type ReadLoad = Result<Vec<Entry>, BuildError>;
+
 // The number of the first entry of a form and an owner.
 fn said(form: Form, owner: u8, load: &[Entry]) -> Option<u32>
     ensures { result ≡ said form owner load.now }
@@ -235,4 +225,59 @@ pub fn deadline_of(load: &[Entry], task: u8) -> Option<u32>
     ensures { result ≡ deadline load.now task }
 {
     said(Form::Deadline, task, load)
+}
+
+// Reads a line behind these entries.
+fn read_line(
+    read: &mut Vec<Entry>,
+    tasks: &[Name],
+    counters: &[Name],
+    number: u32,
+    line: &[u8],
+) -> Result<(), BuildError>
+    requires { IsLoad (owners_read tasks.now counters.now) read.old.items }
+    ensures read { OnOk result (read.new.items ≡ read.old.items ++ entries_of tasks.now counters.now (line.now ∷ [])) }
+    ensures in_range { OnOk result (IsLoad (owners_read tasks.now counters.now) read.new.items) }
+    ensures none { OnOk result (NoFault (LineFault tasks.now counters.now read.old.items number line.now)) }
+    ensures refused { IfErr result
+        (λ error. ErrorIs (LineFault tasks.now counters.now read.old.items number line.now) error) }
+{
+    if let Some(fault) = line_fault(tasks, counters, read.as_slice(), number, line) {
+        return Err(BuildError::Refused(fault));
+    }
+    if is_entry(line) {
+        push(read, line_entry(tasks, counters, line))?;
+    }
+    Ok(())
+}
+
+// Reads lines, up to the first that has a fault.
+fn read_lines(alloc: Global, lines: &[&[u8]], tasks: &[Name], counters: &[Name]) -> ReadLoad
+    requires { length lines.now < 2 ^ 32 }
+    ensures load { IfOk result (λ read. read.items ≡ entries_of tasks.now counters.now (map referent lines.now)) }
+    ensures in_range { IfOk result (λ read. IsLoad (owners_read tasks.now counters.now) read.items) }
+    ensures none { OnOk result (NoFault (LinesFault tasks.now counters.now (map referent lines.now))) }
+    ensures refused { IfErr result
+        (λ error. ErrorIs (LinesFault tasks.now counters.now (map referent lines.now)) error) }
+{
+    let mut read = Vec::new(alloc);
+    for (n, line) in lines.iter().enumerate() {
+        let number = n as u32 + 1;
+        read_line(&mut read, tasks, counters, number, *line)?;
+    }
+    Ok(read)
+}
+
+/// The load of a text of at most 4,294,967,294 bytes, with the names of the tasks and of the counters; or its least
+/// fault: L1 for a line of no form, L2 for a name that no owner has, L3 for a second line of one form and name, L4 for
+/// a number outside 1 to 2,147,483,647.
+pub fn read_load(alloc: Global, text: &[u8], tasks: &[Name], counters: &[Name]) -> ReadLoad
+    requires { length text.now < 4294967295 }
+    ensures load { IfOk result (λ read. read.items ≡ load_in tasks.now counters.now text.now) }
+    ensures in_range { IfOk result (λ read. IsLoad (owners_read tasks.now counters.now) read.items) }
+    ensures none { OnOk result (NoFault (LoadFault tasks.now counters.now text.now)) }
+    ensures refused { IfErr result (λ error. ErrorIs (LoadFault tasks.now counters.now text.now) error) }
+{
+    let lines = lines(alloc, text)?;
+    read_lines(alloc, lines.as_slice(), tasks, counters)
 }

@@ -9,7 +9,5 @@
 
 pub mod laws;
 pub mod requests;
-mod texts;
 
-pub use requests::Request;
-pub use texts::losses_text;
+pub use requests::{Request, losses_text};

@@ -3,7 +3,7 @@ use Rattle.std.proofs.Common.{◌≡◌, ◌∙◌, ◌+◌, ◌-◌, ◌/◌, �
 use Rattle.std.specs.Prelude.{slice_index, replicate}
 use Rattle.std.proofs.lemmas.List.{append_assoc, length-append, length-replicate, length-set, replicate-append-replicate, set-append_left, take_all}
 use Rattle.sloth_base.specs.MemoryMap.{memory_bytes}
-use Rattle.rv32_instr.specs.Ram.{half_at, word_at, with_byte, with_half, with_word}
+use Rattle.rv32_instr.specs.Ram.{word_at, with_byte, with_half, with_word}
 use Rattle.machine_memory.specs.Fresh.{ram_of}
 
 -- ---- what is read
@@ -22,10 +22,6 @@ front_read (b ∷ bytes) (suc i) n = front_read bytes i n
 pub byte_of_front : (bytes : List ℕ) (i : ℕ) → slice_index (ram_of bytes) i ≡ slice_index bytes i
 unfolding ram_of
 byte_of_front bytes i = front_read bytes i (memory_bytes - length bytes)
-
-pub half_of_front : (bytes : List ℕ) (i : ℕ) → half_at (ram_of bytes) i ≡ half_at bytes i
-unfolding half_at
-half_of_front bytes i = rw (byte_of_front bytes i, byte_of_front bytes (i + 1)) refl
 
 pub word_of_front : (bytes : List ℕ) (i : ℕ) → word_at (ram_of bytes) i ≡ word_at bytes i
 unfolding word_at

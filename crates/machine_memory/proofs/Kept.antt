@@ -73,9 +73,9 @@ dropped (k ∷ kept) zero = refl
 dropped (k ∷ kept) (suc word) = dropped kept word
 
 -- a place that is given an instruction, if it is there
-placed : (kept : List (Option InstrKind)) (word : ℕ) (given found : InstrKind) → get_or (set kept word (Some given)) word None ≡ Some found → given ≡ found
+placed : (kept : List (Option InstrKind)) (word : ℕ) (given : Option InstrKind) (found : InstrKind) → get_or (set kept word given) word None ≡ Some found → given ≡ Some found
 placed [] word given found e = absurd cc
-placed (k ∷ kept) zero given found e = cc
+placed (k ∷ kept) zero given found e = e
 placed (k ∷ kept) (suc word) given found e = placed kept word given found e
 
 -- behind a store
@@ -91,18 +91,18 @@ kept_behind ram kept o w value aligned are = record { each = by }
         (eqb_tells word (o / 4))
 
 -- behind one that is kept anew
-pub kept_more : (ram : List ℕ) (kept : List (Option InstrKind)) (o : ℕ) (instr : InstrKind) → o % 4 ≡ 0 → Decode (word_at ram o) ≡ Some instr → AreDecoded ram kept
-    → AreDecoded ram (set kept (o / 4) (Some instr))
+pub kept_more : (ram : List ℕ) (kept : List (Option InstrKind)) (o : ℕ) (instr : Option InstrKind) → o % 4 ≡ 0 → Decode (word_at ram o) ≡ instr → AreDecoded ram kept
+    → AreDecoded ram (set kept (o / 4) instr)
 kept_more ram kept o instr aligned is are = record { each = by }
   where
-    by : (word : ℕ) (found : InstrKind) → get_or (set kept (o / 4) (Some instr)) word None ≡ Some found → Decode (word_at ram (word * 4)) ≡ Some found
+    by : (word : ℕ) (found : InstrKind) → get_or (set kept (o / 4) instr) word None ≡ Some found → Decode (word_at ram (word * 4)) ≡ Some found
     by word found e =
         ⊎_elim
         (λ yes.
-        let f : get_or (set kept (o / 4) (Some instr)) (o / 4) None ≡ Some found = ap (λ n. get_or (set kept (o / 4) (Some instr)) n None) (sym yes.1) ∙ e in
+        let f : get_or (set kept (o / 4) instr) (o / 4) None ≡ Some found = ap (λ n. get_or (set kept (o / 4) instr) n None) (sym yes.1) ∙ e in
         let same : word * 4 ≡ o = omega (arith, yes.1, aligned) in
-        ap (λ p. Decode (word_at ram p)) same ∙ is ∙ ap Some (placed kept (o / 4) instr found f))
-        (λ no. are.each word found (sym (get_or-set_other kept (o / 4) word (Some instr) None no.1) ∙ e))
+        ap (λ p. Decode (word_at ram p)) same ∙ is ∙ placed kept (o / 4) instr found f)
+        (λ no. are.each word found (sym (get_or-set_other kept (o / 4) word instr None no.1) ∙ e))
         (eqb_tells word (o / 4))
 
 -- what is kept of a word

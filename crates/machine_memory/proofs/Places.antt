@@ -10,8 +10,8 @@ use Rattle.sloth_base.specs.Arithmetic.{size_of, extended_number}
 use Rattle.sloth_base.specs.MemoryMap.{memory_base, controller_base}
 use Rattle.rv32_instr.specs.Ram.{word_at}
 use Rattle.machine_memory.specs.Place.{IsPlace, bare_memory, bytes_at, with_bytes}
-use Rattle.machine_memory.specs.declared.place.Place.{Place}
-use Rattle.machine_memory.specs.declared.place.Place.TheVariants as place
+use Rattle.machine_memory.specs.declared.sloth.Place.{Place}
+use Rattle.machine_memory.specs.declared.sloth.Place.TheVariants as place
 
 -- a refusal depends on the controller's being there alone
 pub refusal_bare

@@ -7,8 +7,8 @@ use Rattle.sloth_base.specs.Arithmetic.{size_of}
 use Rattle.sloth_base.specs.MemoryMap.{memory_bytes, memory_base, controller_base, controller_bytes}
 use Rattle.rv32_instr.specs.Ram.{half_at, word_at, with_byte, with_half, with_word}
 use Rattle.rv32_instr.specs.Memory.{Memory, in_ram}
-use Rattle.machine_memory.specs.declared.place.Place.{Place}
-use Rattle.machine_memory.specs.declared.place.Place.TheVariants as place
+use Rattle.machine_memory.specs.declared.sloth.Place.{Place}
+use Rattle.machine_memory.specs.declared.sloth.Place.TheVariants as place
 
 -- a memory with a controller or without one, whatever its bytes
 abbrev pub bare_memory : Bool → Memory

@@ -8,13 +8,9 @@
 #![tactic(auto)]
 
 pub mod bus;
-mod code_ram;
-mod front;
-pub mod place;
-pub mod ram;
+pub mod code_ram;
 pub mod sloth;
 
 pub use bus::Bus;
-pub use place::{Place, extended, locate, vector};
-pub use ram::Ram;
-pub use sloth::SlothBus;
+pub use code_ram::Ram;
+pub use sloth::{Place, SlothBus, extended, locate, vector};

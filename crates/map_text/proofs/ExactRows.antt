@@ -6,7 +6,7 @@ use Rattle.std.proofs.Math.Seq.{take-add}
 use Rattle.sloth_base.specs.declared.app.App.{App}
 use Rattle.sloth_base.specs.declared.app.Func.{Func}
 use Rattle.sloth_base.specs.declared.config.Config.{Config}
-use Rattle.sloth_base.specs.declared.places.Bounds.{Bounds}
+use Rattle.sloth_base.specs.declared.limits.Bounds.{Bounds}
 use Rattle.sloth_base.specs.MemoryMap.{memory_base, vectors_base, boot_base}
 use Rattle.sloth_base.specs.Owners.{first_counter_line}
 use Rattle.sloth_region.specs.declared.region.Map.{Map}
@@ -22,10 +22,10 @@ use Rattle.mem_map.proofs.Starts.{length_starts}
 use Rattle.map_text.specs.ExactRows.{RowsAreExact, behind_symbols, exact_rows, function_bytes, row_alone, rows_of}
 use Rattle.map_text.specs.Rows.{address_behind_code, code_places, map_rows, numbered_starts, own_rows, prologues_of, shared_rows, single_start, starts_of, ticks_of}
 use Rattle.map_text.specs.PieceRows.{first_start, row_to, rows_between}
-use Rattle.map_text.specs.declared.piece_rows.Kind.{Kind}
-use Rattle.map_text.specs.declared.piece_rows.Kind.TheVariants as kind
-use Rattle.map_text.specs.declared.piece_rows.Row.{Row}
-use Rattle.map_text.specs.declared.piece_rows.Start.{Start}
+use Rattle.map_text.specs.declared.piece_starts.Kind.{Kind}
+use Rattle.map_text.specs.declared.piece_starts.Kind.TheVariants as kind
+use Rattle.map_text.specs.declared.piece_starts.Row.{Row}
+use Rattle.map_text.specs.declared.piece_starts.Start.{Start}
 
 -- ---- one row
 

@@ -2,9 +2,9 @@
 use Rattle.std.proofs.Common.{◌≡◌, ◌<◌, ◌+◌, ◌∙◌, ℕ, zero, suc, List, [], ◌∷◌, ◌++◌, Some, None, length, get_or, drop, refl, sym, ap, append_assoc}
 use Rattle.std.specs.Prelude.{slice_get}
 use Rattle.std.proofs.lemmas.List.{drop_more}
-use Rattle.map_text.specs.declared.piece_rows.Kind.TheVariants as kind
-use Rattle.map_text.specs.declared.piece_rows.Row.{Row}
-use Rattle.map_text.specs.declared.piece_rows.Start.{Start}
+use Rattle.map_text.specs.declared.piece_starts.Kind.TheVariants as kind
+use Rattle.map_text.specs.declared.piece_starts.Row.{Row}
+use Rattle.map_text.specs.declared.piece_starts.Start.{Start}
 use Rattle.map_text.specs.PieceRows.{first_start, row_to, rows_between}
 
 -- what begins at a place of a list

@@ -3,7 +3,7 @@ use Rattle.std.proofs.Common.{◌≡◌, ◌∙◌, ℕ, zero, suc, List, ◌++�
 use Rattle.std.proofs.lemmas.List.{ext_get_or}
 use Rattle.sloth_base.specs.declared.app.App.{App}
 use Rattle.sloth_base.specs.declared.config.Config.{Config}
-use Rattle.sloth_base.specs.declared.places.Bounds.{Bounds}
+use Rattle.sloth_base.specs.declared.limits.Bounds.{Bounds}
 use Rattle.sloth_region.specs.declared.region.Extent.{Extent}
 use Rattle.sloth_region.specs.declared.region.Map.{Map}
 use Rattle.code_rules.specs.WellFormed.{WellFormed}
@@ -18,9 +18,9 @@ use Rattle.mem_map.proofs.OnePlan.{AreAlike, one_plan}
 use Rattle.map_text.specs.MapText.{OneText, lines_of, map_text}
 use Rattle.map_text.specs.Rows.{map_rows, own_rows, extent_row, shared_rows, starts_of}
 use Rattle.map_text.specs.PieceRows.{rows_between}
-use Rattle.map_text.specs.declared.piece_rows.Kind.TheVariants as kind
-use Rattle.map_text.specs.declared.piece_rows.Row.{Row}
-use Rattle.map_text.specs.declared.piece_rows.Start.{Start}
+use Rattle.map_text.specs.declared.piece_starts.Kind.TheVariants as kind
+use Rattle.map_text.specs.declared.piece_starts.Row.{Row}
+use Rattle.map_text.specs.declared.piece_starts.Start.{Start}
 
 -- ---- rows
 

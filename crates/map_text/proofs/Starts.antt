@@ -4,8 +4,8 @@ use Rattle.sloth_base.specs.declared.config.Config.{Config}
 use Rattle.sloth_base.specs.MemoryMap.{memory_base, vectors_base, boot_base}
 use Rattle.sloth_region.specs.declared.region.Map.{Map}
 use Rattle.mem_map.specs.Stacks.{address_behind_data}
-use Rattle.map_text.specs.declared.piece_rows.Kind.TheVariants as kind
-use Rattle.map_text.specs.declared.piece_rows.Start.{Start}
+use Rattle.map_text.specs.declared.piece_starts.Kind.TheVariants as kind
+use Rattle.map_text.specs.declared.piece_starts.Start.{Start}
 use Rattle.map_text.specs.Rows.{code_places, first_starts, last_starts, numbered_starts, routine_starts, single_start, starts_of}
 
 -- four lists, joined in two ways

@@ -5,7 +5,7 @@ use Rattle.sloth_region.specs.declared.region.Extent.{Extent}
 use Rattle.sloth_region.specs.declared.region.Map.{Map}
 use Rattle.mem_map.specs.Stacks.{address_behind_data}
 use Rattle.mem_map.specs.Zones.{all_stacks, data_zone}
-use Rattle.map_text.specs.declared.borders.Borders.{Borders}
+use Rattle.map_text.specs.declared.piece_starts.Borders.{Borders}
 
 -- the address of the first stack, or another where there is none
 abbrev pub stacks_base : List Extent → ℕ → ℕ

@@ -4,7 +4,7 @@ use Rattle.std.specs.Prelude as prelude
 use Rattle.sloth_base.specs.declared.app.App.{App}
 use Rattle.sloth_base.specs.declared.app.Func.{Func}
 use Rattle.sloth_base.specs.declared.config.Config.{Config}
-use Rattle.sloth_base.specs.declared.places.Bounds.{Bounds}
+use Rattle.sloth_base.specs.declared.limits.Bounds.{Bounds}
 use Rattle.sloth_base.specs.MemoryMap.{memory_base, vectors_base, boot_base}
 use Rattle.sloth_region.specs.declared.region.Map.{Map}
 use Rattle.code_rules.specs.WellFormed.{WellFormed}
@@ -14,9 +14,9 @@ use Rattle.mem_map.specs.Plan.{code_end, idle_at, idle_bytes, items_at, prologue
 use Rattle.mem_map.specs.Planned.{IsPlanned}
 use Rattle.mem_map.specs.Starts.{end_of}
 use Rattle.map_text.specs.Rows.{map_rows, own_rows, shared_rows}
-use Rattle.map_text.specs.declared.piece_rows.Kind.{Kind}
-use Rattle.map_text.specs.declared.piece_rows.Kind.TheVariants as kind
-use Rattle.map_text.specs.declared.piece_rows.Row.{Row}
+use Rattle.map_text.specs.declared.piece_starts.Kind.{Kind}
+use Rattle.map_text.specs.declared.piece_starts.Kind.TheVariants as kind
+use Rattle.map_text.specs.declared.piece_starts.Row.{Row}
 
 -- the rows of pieces of a kind, each right behind the one before it and of so many bytes: the first at an address and with a number. One
 -- without bytes has no row

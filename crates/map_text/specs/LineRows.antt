@@ -2,7 +2,7 @@
 use Rattle.std.specs.Prelude.{ℕ, ◌+◌, ◌-◌, ltb, cond, List, [], ◌∷◌, ◌++◌, length, get_or}
 use Rattle.sloth_base.specs.declared.app.Func.{Func}
 use Rattle.sloth_base.specs.declared.app.Item.{Item}
-use Rattle.sloth_base.specs.declared.places.Places.{Places}
+use Rattle.sloth_base.specs.declared.limits.Places.{Places}
 use Rattle.map_text.specs.declared.line_rows.LineRow.{LineRow}
 
 -- the address of the first instruction of an item, by its place among the items of all bodies; behind them the address behind the code

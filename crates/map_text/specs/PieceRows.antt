@@ -1,7 +1,7 @@
 -- The rows of pieces of code and data: each piece goes to where the next one begins.
 use Rattle.std.specs.Prelude.{ℕ, ◌-◌, ltb, cond, List, [], ◌∷◌, ◌++◌}
-use Rattle.map_text.specs.declared.piece_rows.Row.{Row}
-use Rattle.map_text.specs.declared.piece_rows.Start.{Start}
+use Rattle.map_text.specs.declared.piece_starts.Row.{Row}
+use Rattle.map_text.specs.declared.piece_starts.Start.{Start}
 
 -- the row of a piece that goes to an address, if it has any bytes
 abbrev pub row_to : Start → ℕ → List Row

@@ -12,10 +12,10 @@ use Rattle.mem_map.specs.Stacks.{address_behind_data}
 use Rattle.mem_map.specs.StackParts.{is_extended}
 use Rattle.mem_map.specs.Zones.{code_zone, stack_of}
 use Rattle.mem_map.specs.StackParts.{no_extent}
-use Rattle.map_text.specs.declared.piece_rows.Kind.{Kind}
-use Rattle.map_text.specs.declared.piece_rows.Kind.TheVariants as kind
-use Rattle.map_text.specs.declared.piece_rows.Row.{Row}
-use Rattle.map_text.specs.declared.piece_rows.Start.{Start}
+use Rattle.map_text.specs.declared.piece_starts.Kind.{Kind}
+use Rattle.map_text.specs.declared.piece_starts.Kind.TheVariants as kind
+use Rattle.map_text.specs.declared.piece_starts.Row.{Row}
+use Rattle.map_text.specs.declared.piece_starts.Start.{Start}
 use Rattle.map_text.specs.PieceRows.{rows_between}
 
 -- ---- code and data: each piece goes to where the next one begins

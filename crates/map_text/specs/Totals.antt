@@ -1,10 +1,10 @@
 -- The bytes between the rows of an image, and what the rows of each part take together.
 use Rattle.std.specs.Prelude.{ℕ, ◌+◌, ◌-◌, ltb, cond, Bool, true, false, List, [], ◌∷◌, ◌++◌}
-use Rattle.map_text.specs.declared.piece_rows.Kind.{Kind}
-use Rattle.map_text.specs.declared.piece_rows.Kind.TheVariants as kind
-use Rattle.map_text.specs.declared.piece_rows.Row.{Row}
-use Rattle.map_text.specs.declared.totals.Part.{Part}
-use Rattle.map_text.specs.declared.totals.Part.TheVariants as part
+use Rattle.map_text.specs.declared.piece_starts.Kind.{Kind}
+use Rattle.map_text.specs.declared.piece_starts.Kind.TheVariants as kind
+use Rattle.map_text.specs.declared.piece_starts.Row.{Row}
+use Rattle.map_text.specs.declared.lines.Part.{Part}
+use Rattle.map_text.specs.declared.lines.Part.TheVariants as part
 
 -- the address behind a row
 abbrev pub behind_row : Row → ℕ

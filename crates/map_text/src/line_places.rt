@@ -1,10 +1,10 @@
-//! Where the lines of a source come from, by its comments. In which lines a source declares its symbols.
+//! Where the lines of a source come from, by its comments, and in which of them it declares its symbols.
 ghost use Rattle.std.specs.Prelude.{◌≡◌, ◌<◌, ◌++◌, IfOk, OnOk, length, map, nat_le};
 ghost use Rattle.std.specs.Char.{is_ascii_digit};
 ghost use Rattle.std.specs.List.{list_all};
 ghost use Rattle.text_pieces.specs.Names.{referent};
-ghost use Rattle.map_text.specs.LinePlaces.{are_shown, file_behind, is_new, is_stated, names_behind, line_origins};
-ghost use Rattle.map_text.specs.LinePlaces.{place_behind, place_here, quoted, stated_line, stated_name};
+ghost use Rattle.map_text.specs.LinePlaces.{file_behind, is_new, is_stated, names_behind, line_origins, place_behind};
+ghost use Rattle.map_text.specs.LinePlaces.{place_here, quoted, stated_line, stated_name};
 ghost use Rattle.map_text.specs.DataLines.{data_lines};
 
 use asm_lines::SourceLine;
@@ -69,24 +69,16 @@ fn all_shown(name: &[u8]) -> bool
     name.iter().all(|byte| *byte >= 32)
 }
 
-// Whether all bytes of a name, which has one at least, are shown.
-fn are_shown(name: &[u8]) -> bool
-    ensures { result ≡ are_shown name.now }
-{
-    !name.is_empty() && all_shown(name)
-}
-
-// Whether a line is a comment that states a place.
 #[tactic(auto, unfolding(crate::specs::LinePlaces::is_stated))]
 fn is_stated(line: &[u8]) -> bool
     ensures { result ≡ is_stated line.now }
 {
-    let name = quoted(line);
+    let (text, name) = (quoted(line), stated_name(line));
     same(front(line, 6), b"#line ")
         && stated_line(line) != 0
-        && same(front(name, 1), b"\"")
-        && has(after(name, 1), b'"')
-        && are_shown(stated_name(line))
+        && same(front(text, 1), b"\"")
+        && has(after(text, 1), b'"')
+        && (!name.is_empty() && all_shown(name))
 }
 
 fn is_new(names: &Names, line: &[u8]) -> bool
@@ -105,7 +97,6 @@ fn names_behind<'t>(names: Names<'t>, line: &'t [u8]) -> Result<Names<'t>>
     Ok(names)
 }
 
-// Appends the file of a line, if it is new, to the table of files.
 #[tactic(auto, unfolding(crate::specs::LinePlaces::file_behind))]
 fn put_file(files: &mut Vec<u8>, names: &Names, line: &[u8]) -> Result<()>
     ensures { OnOk result (files.new.items ≡ files.old.items ++ file_behind names.now line.now) }
@@ -116,7 +107,6 @@ fn put_file(files: &mut Vec<u8>, names: &Names, line: &[u8]) -> Result<()>
     line!(files; Word(stated_name(line)), Word(&[0]), Word(&[0, 0, 0]))
 }
 
-// Where a line comes from, where the lines before it leave this place.
 #[tactic(auto, unfolding(crate::specs::LinePlaces::place_here))]
 fn place_here(names: &Names, left: Place, line: &[u8]) -> Place
     ensures { result ≡ place_here names.now left line.now }
@@ -132,14 +122,10 @@ fn place_here(names: &Names, left: Place, line: &[u8]) -> Place
     left
 }
 
-// What a line leaves to the next one.
-fn place_behind(here: Place, statement: &SourceLine) -> Place
-    ensures { result ≡ place_behind here statement.now }
+fn place_behind(here: Place, line: &SourceLine) -> Place
+    ensures { result ≡ place_behind here line.now }
 {
-    if closes_body(statement) {
-        return NO_PLACE;
-    }
-    here
+    if closes_body(line) { NO_PLACE } else { here }
 }
 
 /// Where these lines come from, which are these statements.
@@ -167,7 +153,6 @@ pub fn line_origins(alloc: Global, lines: &[&[u8]], statements: &[SourceLine]) -
     })
 }
 
-// The numbers of the lines that declare symbols, from 1.
 fn data_lines(alloc: Global, lines: &[SourceLine]) -> Result<Vec<u32>>
     requires { length lines.now < 4294967295 }
     ensures { IfOk result (λ found. found.items ≡ data_lines 1 lines.now) }

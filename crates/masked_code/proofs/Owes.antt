@@ -7,9 +7,9 @@ use Rattle.sloth_base.specs.MemoryMap.{memory_base, memory_bytes, controller_bas
 use Rattle.sloth_base.specs.Lines.{flag_of}
 use Rattle.sloth_base.specs.Arrive.{core_arrive, state_arrive}
 use Rattle.sloth_region.specs.Layout.{pending_byte, enabled_byte, level_byte}
-use Rattle.rv32_instr.specs.declared.effect.Change.{Change}
-use Rattle.rv32_instr.specs.declared.effect.Effect.{Effect}
-use Rattle.rv32_instr.specs.declared.effect.Effect.TheVariants.{Nothing, Write, Branch, Jump, Load, Store, Csr, Environment, Return}
+use Rattle.rv32_instr.specs.declared.encoding.Change.{Change}
+use Rattle.rv32_instr.specs.declared.encoding.Effect.{Effect}
+use Rattle.rv32_instr.specs.declared.encoding.Effect.TheVariants.{Nothing, Write, Branch, Jump, Load, Store, Csr, Environment, Return}
 use Rattle.rv32_instr.specs.declared.InstrKind.{InstrKind}
 use Rattle.rv32_instr.specs.Ram.{word_at, with_word}
 use Rattle.rv32_instr.specs.Effect.{effect}

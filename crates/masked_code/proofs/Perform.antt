@@ -8,9 +8,9 @@ use Rattle.sloth_base.specs.Lines.{flag_of}
 use Rattle.sloth_base.specs.Arrive.{core_arrive}
 use Rattle.sloth_base.specs.MemoryMap.{controller_base, line_count, controller_bytes}
 use Rattle.rv32_instr.specs.declared.csr.TheConstants.{MSTATUS, MSCRATCH, MEPC, ILEVEL, PLEVEL}
-use Rattle.rv32_instr.specs.declared.effect.Change.{Change}
-use Rattle.rv32_instr.specs.declared.effect.Change.TheVariants.{Keep, Replace, Set, Clear}
-use Rattle.rv32_instr.specs.declared.effect.Effect.TheVariants.{Load, Store}
+use Rattle.rv32_instr.specs.declared.encoding.Change.{Change}
+use Rattle.rv32_instr.specs.declared.encoding.Change.TheVariants.{Keep, Replace, Set, Clear}
+use Rattle.rv32_instr.specs.declared.encoding.Effect.TheVariants.{Load, Store}
 use Rattle.rv32_instr.specs.Ram.{word_at, with_word}
 use Rattle.rv32_instr.specs.Memory.{memory_of, with_memory, refusal, loaded_number, stored_memory}
 use Rattle.rv32_instr.specs.Execute.{perform, touched_line_by, pending_line, next_behind, unless_refused, with_register, with_csr, changed_core}

@@ -7,8 +7,8 @@ use Rattle.sloth_base.specs.Machine.{Core, State}
 use Rattle.sloth_base.specs.Lines.{flag_of}
 use Rattle.sloth_base.specs.Arrive.{core_arrive, state_arrive}
 use Rattle.sloth_base.specs.MemoryMap.{memory_base, memory_bytes, line_count}
-use Rattle.rv32_instr.specs.declared.effect.Effect.{Effect}
-use Rattle.rv32_instr.specs.declared.effect.Effect.TheVariants.{Nothing, Write, Branch, Jump, Load, Store, Csr, Environment, Return}
+use Rattle.rv32_instr.specs.declared.encoding.Effect.{Effect}
+use Rattle.rv32_instr.specs.declared.encoding.Effect.TheVariants.{Nothing, Write, Branch, Jump, Load, Store, Csr, Environment, Return}
 use Rattle.rv32_instr.specs.declared.InstrKind.{InstrKind}
 use Rattle.rv32_instr.specs.Encode.{Encode}
 use Rattle.rv32_instr.specs.Table.{Decode}

@@ -27,7 +27,6 @@ pub fn past(instructions: u32) -> i32
     4 + 4 * instructions as i32
 }
 
-/// Adds one instruction.
 fn put(code: &mut Vec<Instr>, kind: InstrKind) -> Result<(), AllocError>
     requires { InRange kind }
     ensures { OnOk result (code.new.items ≡ code.old.items ++ kind ∷ []) }

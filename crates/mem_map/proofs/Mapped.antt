@@ -7,7 +7,7 @@ use Rattle.sloth_base.specs.Owners.{first_counter_line, counter_line}
 use Rattle.sloth_region.specs.declared.region.Extent.{Extent}
 use Rattle.sloth_region.specs.declared.region.Map.{Map}
 use Rattle.sloth_region.specs.Region.{AreApartWithin}
-use Rattle.sloth_base.specs.declared.places.Bounds.{Bounds}
+use Rattle.sloth_base.specs.declared.limits.Bounds.{Bounds}
 use Rattle.sloth_base.specs.Limits.{task_limit}
 use Rattle.sloth_base.specs.MemoryMap.{vectors_base, memory_end, words_base, line_count}
 use Rattle.mem_map.specs.declared.all_lengths.CodeLengths.{CodeLengths}

@@ -13,7 +13,7 @@ use Rattle.sloth_region.specs.declared.region.Extent.{Extent}
 use Rattle.sloth_region.specs.declared.region.Map.{Map}
 use Rattle.sloth_region.specs.Region.{FollowWithin}
 use Rattle.std.proofs.lemmas.Bool.{cases_lt}
-use Rattle.sloth_base.specs.declared.places.Bounds.{Bounds}
+use Rattle.sloth_base.specs.declared.limits.Bounds.{Bounds}
 use Rattle.sloth_base.specs.Limits.{task_limit, counter_limit, item_limit, data_limit}
 use Rattle.sloth_base.specs.MemoryMap.{vectors_base, memory_bytes, line_count}
 use Rattle.mem_map.specs.Starts.{end_of, starts}

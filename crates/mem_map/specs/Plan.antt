@@ -4,7 +4,7 @@ use Rattle.std.specs.Prelude as prelude
 use Rattle.sloth_base.specs.declared.app.App.{App}
 use Rattle.sloth_base.specs.declared.app.Symbol.{Symbol}
 use Rattle.sloth_base.specs.declared.config.Config.{Config}
-use Rattle.sloth_base.specs.declared.places.Bounds.{Bounds}
+use Rattle.sloth_base.specs.declared.limits.Bounds.{Bounds}
 use Rattle.sloth_base.specs.Blocks.{block_count}
 use Rattle.sloth_base.specs.Owners.{first_counter_line, counter_line}
 use Rattle.sloth_base.specs.MemoryMap.{vectors_base, boot_base, line_count}

@@ -47,11 +47,11 @@ fn length_if(wanted: bool, number: usize) -> u32
     if wanted { block_length(number) } else { 0 }
 }
 
-// The lengths of the prologues.
 fn prologue_lengths(alloc: Global, config: &Config, app: &App) -> Result<Vec<u32>, AllocError>
     requires { WellFormed config.now app.now }
     ensures count { IfOk result (λ lengths. length lengths.items ≡ length config.now.tasks) }
-    ensures each { IfOk result (λ lengths. (t : ℕ) → t < length config.now.tasks → IsPrologueLength t config.now app.now (get_or lengths.items t 0)) }
+    ensures each { IfOk result (λ lengths. (t : ℕ) → t < length config.now.tasks
+        → IsPrologueLength t config.now app.now (get_or lengths.items t 0)) }
 {
     let mut lengths = Vec::new(alloc);
     let count = config.tasks.items().len() as u32;
@@ -61,11 +61,11 @@ fn prologue_lengths(alloc: Global, config: &Config, app: &App) -> Result<Vec<u32
     Ok(lengths)
 }
 
-// The lengths of the ticks.
 fn tick_lengths(alloc: Global, config: &Config) -> Result<Vec<u32>, AllocError>
     requires { (length config.now.counters ≤ counter_limit) × (length config.now.alarms ≤ alarm_limit) }
     ensures count { IfOk result (λ lengths. length lengths.items ≡ length config.now.counters) }
-    ensures each { IfOk result (λ lengths. (c : ℕ) → c < length config.now.counters → get_or lengths.items c 0 ≡ tick_length c config.now.alarms) }
+    ensures each { IfOk result (λ lengths. (c : ℕ) → c < length config.now.counters → get_or lengths.items c 0
+        ≡ tick_length c config.now.alarms) }
 {
     let mut lengths = Vec::new(alloc);
     let count = config.counters.items().len() as u32;
@@ -95,7 +95,8 @@ pub fn all_lengths(alloc: Global, config: &Config, app: &App) -> Result<CodeLeng
 
 // What the operation calls is wanted too.
 fn mark_call(wanted: &mut [bool; BLOCK_COUNT], op: Op)
-    ensures { (number : ℕ) → number < block_count → get_or wanted.new number false ≡ (get_or wanted.old number false || is_call_of number op) }
+    ensures { (number : ℕ) → number < block_count → get_or wanted.new number false
+        ≡ (get_or wanted.old number false || is_call_of number op) }
 {
     if let Op::Serve(call) = op {
         let number = block_number(call.service, call.object);
@@ -107,7 +108,8 @@ fn mark_call(wanted: &mut [bool; BLOCK_COUNT], op: Op)
 
 // So is what the function calls.
 fn mark_calls(wanted: &mut [bool; BLOCK_COUNT], func: &Func)
-    ensures { (number : ℕ) → number < block_count → get_or wanted.new number false ≡ (get_or wanted.old number false || is_called_by number func.now) }
+    ensures { (number : ℕ) → number < block_count → get_or wanted.new number false
+        ≡ (get_or wanted.old number false || is_called_by number func.now) }
 {
     for item in func.items.items() {
         mark_call(wanted, item.op);

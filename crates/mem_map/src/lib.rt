@@ -12,11 +12,9 @@
 //! `code_lengths`; stacks: `stack_bounds`.
 #![tactic(auto)]
 
-mod addresses;
 pub mod all_lengths;
 mod marking;
 mod planning;
-mod stack_parts;
 mod stacks;
 mod writing;
 mod zones;
@@ -24,6 +22,10 @@ mod zones;
 pub use all_lengths::wanted_blocks;
 pub use marking::{mark, marks};
 pub use planning::plan;
-pub use stack_parts::{first_own, stack_number};
+pub use stacks::{first_own, stack_number};
+use std::alloc::AllocError;
 pub use writing::{write, write_blocks};
 pub use zones::data_zone;
+
+/// Numbers of pieces, in their order.
+type Numbers = Result<Vec<u32>, AllocError>;

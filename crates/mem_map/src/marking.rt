@@ -2,24 +2,12 @@
 ghost use Rattle.std.specs.Prelude.{◌≡◌, ◌<◌, ◌++◌, IfOk};
 ghost use Rattle.std.specs.List.Sorted.{IsPermutation, IsStrictlyIncreasing};
 ghost use Rattle.sloth_base.specs.Limits.{body_limit};
-ghost use Rattle.rv32_expand.specs.InPlace.{mark_of, result_register};
+ghost use Rattle.rv32_expand.specs.InPlace.{mark_of};
 ghost use Rattle.mem_map.specs.Sections.{marks_of, addresses, HaveOwnAddresses};
 
 use rv32_instr::Block;
 use sloth_base::{Mark, MarkKind, Op};
 use std::alloc::{AllocError, Global};
-
-// The register of an item's result, or 0.
-fn result_register(op: Op) -> u8
-    ensures { result ≡ result_register op }
-{
-    match op {
-        Op::Alu { rd, .. } | Op::AluImm { rd, .. } | Op::Lui { rd, .. } | Op::Li { rd, .. } => rd.0,
-        Op::FrameLoad { rd, .. } | Op::Load { rd, .. } | Op::LoadAt { rd, .. } => rd.0,
-        Op::FrameStore { rs, .. } | Op::Store { rs, .. } | Op::StoreAt { rs, .. } => rs.0,
-        Op::Branch { .. } | Op::Jump { .. } | Op::Invoke { .. } | Op::Return | Op::Serve(_) => 0,
-    }
-}
 
 /// The mark of an item at an address.
 pub fn mark(op: Op, address: u32, func: u32, index: u32) -> Mark
@@ -28,7 +16,22 @@ pub fn mark(op: Op, address: u32, func: u32, index: u32) -> Mark
 {
     let (kind, a) = match op {
         Op::Serve(call) => (MarkKind::Jump, call.service.code()),
-        _ => (MarkKind::Item, result_register(op)),
+        _ => (
+            MarkKind::Item,
+            match op {
+                Op::Alu { rd, .. }
+                | Op::AluImm { rd, .. }
+                | Op::Lui { rd, .. }
+                | Op::Li { rd, .. } => rd.0,
+                Op::FrameLoad { rd, .. } | Op::Load { rd, .. } | Op::LoadAt { rd, .. } => rd.0,
+                Op::FrameStore { rs, .. } | Op::Store { rs, .. } | Op::StoreAt { rs, .. } => rs.0,
+                Op::Branch { .. }
+                | Op::Jump { .. }
+                | Op::Invoke { .. }
+                | Op::Return
+                | Op::Serve(_) => 0,
+            },
+        ),
     };
     Mark {
         address,
@@ -39,7 +42,6 @@ pub fn mark(op: Op, address: u32, func: u32, index: u32) -> Mark
     }
 }
 
-// The marks of the blocks, block by block.
 fn all_marks(alloc: Global, blocks: &[Block]) -> Result<Vec<Mark>, AllocError>
     ensures { IfOk result (λ marks. marks.items ≡ marks_of blocks.now) }
 {

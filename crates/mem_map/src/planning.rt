@@ -1,24 +1,25 @@
 //! The map of an image. Addresses of pieces, each right behind the one before it.
 //! The lengths of code and symbols in bytes.
+//! The addresses of services, each right behind the one before it, and those to which the vector words jump.
 ghost use Rattle.std.specs.Prelude.{ℕ, ◌≡◌, ◌≤◌, ◌<◌, ◌⊎◌, IfOk, All, length, map, get_or, slice_index, take};
 ghost use Rattle.code_rules.specs.WellFormed.{WellFormed};
 ghost use Rattle.stack_bounds.specs.Bounds.{AreBounds};
 ghost use Rattle.mem_map.specs.Starts.{starts, end_of, code_byte_count};
 ghost use Rattle.mem_map.specs.Zones.{HasZones};
 ghost use Rattle.mem_map.specs.Stacks.{HasStacks};
-ghost use Rattle.mem_map.specs.Plan.{MayPlan, HasAddresses, idle_at, prologues_at, ticks_at, tick_starts, services_at, items_at, code_end, symbol_bytes};
+ghost use Rattle.mem_map.specs.Plan.{MayPlan, HasAddresses, idle_at, prologues_at, ticks_at, tick_starts, services_at};
+ghost use Rattle.mem_map.specs.Plan.{items_at, code_end, symbol_bytes};
 ghost use Rattle.sloth_base.specs.Owners.{first_counter_line, counter_line};
 ghost use Rattle.sloth_base.specs.Limits.{task_limit, counter_limit, item_limit, data_limit};
 ghost use Rattle.sloth_base.specs.MemoryMap.{line_count};
 ghost use Rattle.mem_map.specs.Planned.{IsPlanned};
 
-use crate::addresses::{handlers, place_services};
 use crate::all_lengths::{CodeLengths, all_lengths};
 use crate::stacks::{stack_lengths, task_parts};
 use crate::zones::plan_zones;
 use sloth_base::{
-    App, BLOCK_COUNT, BOOT_BASE, Bounds, Config, Func, LINE_COUNT, List, NoMemory, Places, Result,
-    Symbol, VECTORS_BASE, WORD,
+    App, BLOCK_COUNT, BOOT_BASE, Bounds, Config, FIRST_COUNTER_LINE, Func, LINE_COUNT, List,
+    NoMemory, Places, Result, Symbol, VECTORS_BASE, WORD,
 };
 use sloth_region::Map;
 use stack_bounds::offsets;
@@ -45,25 +46,29 @@ fn place_code(alloc: Global, from: u32, sizes: &[u32]) -> Result<Pieces, AllocEr
     place_pieces(alloc, from, &lengths)
 }
 
-// The addresses of the code behind boot.
 fn plan_code(alloc: Global, lengths: &CodeLengths) -> Result<Code, AllocError>
     requires boot { lengths.now.boot ≤ 136 }
     requires few { (length lengths.now.prologues ≤ task_limit) × (length lengths.now.ticks ≤ counter_limit) }
     requires prologues { All (λ size. size ≤ 2048) lengths.now.prologues }
     requires ticks { All (λ size. size ≤ 2048) lengths.now.ticks }
     requires items { All (λ size. size ≤ 2048) lengths.now.items }
-    requires fits { (ticks_at lengths.now < 4294967296) × (services_at lengths.now < 4294967296) × (items_at lengths.now < 4294967296)
+    requires fits { (ticks_at lengths.now < 4294967296) × (services_at lengths.now < 4294967296)
+        × (items_at lengths.now < 4294967296)
         × (code_end lengths.now < 4294967296) }
     ensures idle { IfOk result (λ code. code.idle ≡ idle_at lengths.now) }
     ensures lines { IfOk result (λ code. length code.handlers ≡ line_count) }
     ensures prologues { IfOk result (λ code. take (length lengths.now.prologues) code.handlers
         ≡ starts (prologues_at lengths.now) (map code_byte_count lengths.now.prologues)) }
-    ensures ticks { IfOk result (λ code. (c : ℕ) → c < length lengths.now.ticks → slice_index code.handlers (counter_line c)
+    ensures ticks { IfOk result (λ code. (c : ℕ) → c < length lengths.now.ticks
+        → slice_index code.handlers (counter_line c)
         ≡ get_or (tick_starts lengths.now) c 0) }
     ensures unused { IfOk result (λ code. (line : ℕ) → length lengths.now.prologues ≤ line → line < line_count
-        → (line < first_counter_line) ⊎ (counter_line (length lengths.now.ticks) ≤ line) → slice_index code.handlers line ≡ code.idle) }
-    ensures services { IfOk result (λ code. code.services ≡ starts (services_at lengths.now) (map code_byte_count lengths.now.services)) }
-    ensures items { IfOk result (λ code. code.items ≡ starts (items_at lengths.now) (map code_byte_count lengths.now.items)) }
+        → (line < first_counter_line) ⊎ (counter_line (length lengths.now.ticks) ≤ line)
+        → slice_index code.handlers line ≡ code.idle) }
+    ensures services { IfOk result (λ code. code.services ≡ starts (services_at lengths.now)
+        (map code_byte_count lengths.now.services)) }
+    ensures items { IfOk result (λ code. code.items ≡ starts (items_at lengths.now)
+        (map code_byte_count lengths.now.items)) }
     ensures end { IfOk result (λ code. code.end ≡ code_end lengths.now) }
 {
     let idle = BOOT_BASE + WORD * lengths.boot;
@@ -102,7 +107,6 @@ fn plan_symbols(alloc: Global, from: u32, app: &App) -> Result<Pieces, AllocErro
     place_pieces(alloc, from, &lengths)
 }
 
-// The map, with its zones and addresses.
 fn make_map(
     alloc: Global,
     config: &Config,
@@ -179,10 +183,8 @@ pub fn place_pieces(alloc: Global, from: u32, lengths: &[u32]) -> Result<Pieces,
         starts.push(end)?;
         end += *len;
     }
-    Ok(Pieces {
-        starts: List::from_vec(starts),
-        end,
-    })
+    let starts = List::from_vec(starts);
+    Ok(Pieces { starts, end })
 }
 
 /// The bytes of pieces of code with so many instructions, at most 2,048 each.
@@ -220,4 +222,58 @@ pub fn symbol_lengths(alloc: Global, symbols: &[Symbol]) -> Result<Vec<u32>, All
         lengths.push((len + (WORD - 1)) / WORD * WORD)?;
     }
     Ok(lengths)
+}
+
+// Those of the lines of counters: their ticks. All others go to the idle loop.
+fn with_ticks(idle: u32, ticks: &[u32]) -> [u32; LINE_COUNT]
+    requires { length ticks.now ≤ counter_limit }
+    ensures ticks { (c : ℕ) → c < length ticks.now → slice_index result (counter_line c) ≡ get_or ticks.now c 0 }
+    ensures unused { (line : ℕ) → line < line_count → (line < first_counter_line)
+        ⊎ (counter_line (length ticks.now) ≤ line) → slice_index result line ≡ idle }
+    ensures lines { length result ≡ line_count }
+{
+    let mut handlers = [idle; LINE_COUNT];
+    for counter in 0..ticks.len() {
+        handlers[usize::from(FIRST_COUNTER_LINE) + counter] = ticks[counter];
+    }
+    handlers
+}
+
+/// Where the vector word of each line jumps to: the prologue of its task, the tick of its counter, or the idle loop.
+pub fn handlers(idle: u32, prologues: &[u32], ticks: &[u32]) -> [u32; LINE_COUNT]
+    requires { (length prologues.now ≤ task_limit) × (length ticks.now ≤ counter_limit) }
+    ensures prologues { take (length prologues.now) result ≡ prologues.now }
+    ensures ticks { (c : ℕ) → c < length ticks.now → slice_index result (counter_line c) ≡ get_or ticks.now c 0 }
+    ensures unused { (line : ℕ) → length prologues.now ≤ line → line < line_count → (line < first_counter_line)
+        ⊎ (counter_line (length ticks.now) ≤ line)
+        → slice_index result line ≡ idle }
+    ensures lines { length result ≡ line_count }
+{
+    let mut handlers = with_ticks(idle, ticks);
+    for task in 0..prologues.len() {
+        handlers[task] = prologues[task];
+    }
+    handlers
+}
+
+/// The address of each service by its number, and the address behind the last one.
+#[derive(Drop)]
+pub struct Services {
+    pub starts: [u32; BLOCK_COUNT],
+    pub end: u32,
+}
+
+/// The addresses of services of so many instructions, the first at `from`. One that has none takes no room.
+pub fn place_services(from: u32, sizes: &[u32; BLOCK_COUNT]) -> Services
+    requires { end_of from (map code_byte_count sizes.now) < 4294967296 }
+    ensures starts { result.starts ≡ starts from (map code_byte_count sizes.now) }
+    ensures end { result.end ≡ end_of from (map code_byte_count sizes.now) }
+{
+    let mut starts = [0; BLOCK_COUNT];
+    let mut end = from;
+    for number in 0..BLOCK_COUNT {
+        starts[number] = end;
+        end += WORD * sizes[number];
+    }
+    Services { starts, end }
 }

@@ -38,10 +38,7 @@ pub fn write_blocks(memory: &mut [u8], blocks: &[Block])
     ensures { memory.new ≡ linked_memory memory.old (map block_section blocks.now) }
 {
     for block in blocks {
-        write_code(
-            memory,
-            (block.at - MEMORY_BASE) as usize,
-            block.code.items(),
-        );
+        let at = (block.at - MEMORY_BASE) as usize;
+        write_code(memory, at, block.code.items());
     }
 }

@@ -52,7 +52,8 @@ pub fn plan_zones(alloc: Global, code_len: u32, data_len: u32, stack_lens: &[u32
     ensures code { IfOk result (λ zones. zones.code ≡ record { base = vectors_base; len = code_len }) }
     ensures data_zone { IfOk result (λ zones. zones.data ≡ record { base = vectors_base + code_len; len = data_len }) }
     ensures stacks { IfOk result (λ zones. map (λ e. e.len) zones.stacks ≡ stack_lens.now) }
-    ensures stacks_are { IfOk result (λ zones. zones.stacks ≡ run 16 (zones.data.base + zones.data.len) stack_lens.now) }
+    ensures stacks_are { IfOk result (λ zones. zones.stacks ≡ run 16
+        (zones.data.base + zones.data.len) stack_lens.now) }
     ensures stacks_aligned { IfOk result (λ zones. All (λ e. e.base % 16 ≡ 0) zones.stacks) }
 {
     let mut region = Region::new(WORDS_BASE, RAM_LEN);
@@ -76,7 +77,8 @@ pub fn put(region: &mut Region, len: u32, align: u32) -> Extent
     requires word { (align ≡ 4) ⊎ (align ≡ 16) }
     requires few { length region.old.placed < 96 }
     requires room { first_free_address region.old.base region.old.placed + ((align - 1) + len) ≤ region.old.end }
-    ensures is { result ≡ record { base = aligned (first_free_address region.old.base region.old.placed) align; len = len } }
+    ensures is { result
+        ≡ record { base = aligned (first_free_address region.old.base region.old.placed) align; len = len } }
     ensures placed { region.new ≡ record region.old { placed = region.old.placed ++ result ∷ [] } }
 {
     match region.place(len, align) {
@@ -96,9 +98,12 @@ pub fn place_all(
     requires word { (align ≡ 4) ⊎ (align ≡ 16) }
     requires few { length region.old.placed + length lengths.now ≤ 96 }
     requires room { first_free_address region.old.base region.old.placed + room_for align lengths.now ≤ region.old.end }
-    ensures is { IfOk result (λ extents. extents.items ≡ run align (first_free_address region.old.base region.old.placed) lengths.now) }
-    ensures run { IfOk result (λ extents. AreRun align (first_free_address region.old.base region.old.placed) region.old.end lengths.now extents.items) }
-    ensures placed { IfOk result (λ extents. region.new ≡ record region.old { placed = region.old.placed ++ extents.items }) }
+    ensures is { IfOk result (λ extents. extents.items ≡ run align
+        (first_free_address region.old.base region.old.placed) lengths.now) }
+    ensures run { IfOk result (λ extents. AreRun align (first_free_address region.old.base region.old.placed)
+        region.old.end lengths.now extents.items) }
+    ensures placed { IfOk result (λ extents. region.new ≡ record region.old
+        { placed = region.old.placed ++ extents.items }) }
 {
     let mut extents = Vec::new(alloc);
     for len in lengths {

@@ -1,10 +1,13 @@
-//! What a run is observed by, and the event of a part of a run.
+//! What a run is observed by, and the event of a part of a run. The mark of each word, by its address.
+ghost use Rattle.std.specs.Prelude.{◌≡◌, slice_index, true, IfOk, IfSome};
+ghost use Rattle.observe.specs.MarkTable.{mark_of, entry_place, number_at, number_in, IsPlaced, IsMarkTable};
 
-use crate::mark_table::MarkTable;
 use sloth_base::numbers::Owners;
 use sloth_base::{
-    Event, FIRST_COUNTER_LINE, Line, LineKind, Mark, MarkKind, Service, Stamp, Stamped, Step,
+    Event, FIRST_COUNTER_LINE, Line, LineKind, MEMORY_BYTES, Mark, MarkKind, Result, Service,
+    Stamp, Stamped, Step,
 };
+use std::alloc::Global;
 use std::marker::Model;
 
 /// The marks of an image and the owners of lines.
@@ -32,12 +35,12 @@ impl<'a> Model for ImageView<'a> {
 
 impl ImageView<'_> {
     ghost use Rattle.std.specs.Prelude.{◌≡◌, map, slice_index};
-    ghost use Rattle.observe.specs.Observe.{running_task, entry_event, arrival_event, mark_at, service_event, unentered_event, stretch_event, outside_events, stamp};
+    ghost use Rattle.observe.specs.Observe.{running_task, entry_event, arrival_event, mark_at, service_event};
+    ghost use Rattle.observe.specs.Observe.{unentered_event, stretch_event, outside_events, stamp};
     ghost use Rattle.sloth_base.specs.Owners.{line_kind};
     ghost use Rattle.sloth_base.specs.ServiceCodes.{service_of};
     ghost use Rattle.observe.specs.Progress.{only_element, is_shown};
 
-    // The mark on the instruction at this address.
     #[inline(always)]
     fn mark(&self, address: u32) -> Option<Mark>
         ensures { result ≡ mark_at self.now address }
@@ -83,14 +86,17 @@ impl ImageView<'_> {
         }
     }
 
-    // The event of a stretch that begins with the taking of a line.
     fn entry_event(&self, line: Line) -> Event
         ensures { result ≡ entry_event line (line_kind self.now.owners line) }
     {
         match self.owners.kind(line) {
             LineKind::Task(task) => Event::Enter(task),
             LineKind::Counter(counter) => Event::Tick(counter),
-            LineKind::Unused => unused_event(line),
+            LineKind::Unused => if line.0 < FIRST_COUNTER_LINE {
+                Event::Enter(u32::MAX)
+            } else {
+                Event::Tick(u32::MAX)
+            },
         }
     }
 
@@ -107,7 +113,8 @@ impl ImageView<'_> {
 
     /// The event of a step outside the stretches.
     pub fn outside_event(&self, step: &Step) -> Option<Stamped>
-        ensures { result ≡ only_element (map (stamp step.now.count step.now.count) (outside_events (mark_at self.now step.now.pc) self.now step.now)) }
+        ensures { result ≡ only_element (map (stamp step.now.count step.now.count)
+            (outside_events (mark_at self.now step.now.pc) self.now step.now)) }
     {
         let mark = self.mark(step.pc)?;
         let event = match mark.kind {
@@ -120,10 +127,8 @@ impl ImageView<'_> {
             MarkKind::Idle => Event::Idle,
             _ => return None,
         };
-        let stamp = Stamp {
-            from: step.count,
-            at: step.count,
-        };
+        let (from, at) = (step.count, step.count);
+        let stamp = Stamp { from, at };
         Some(Stamped { stamp, event })
     }
 
@@ -174,10 +179,6 @@ impl ImageView<'_> {
     }
 }
 
-ghost use Rattle.std.specs.Prelude.{◌≡◌, slice_index};
-ghost use Rattle.observe.specs.MarkTable.{mark_of};
-ghost use Rattle.observe.specs.Observe.{unused_event};
-
 // The mark whose place and 1 more is a number, or none.
 #[inline(always)]
 #[tactic(auto, using(crate::proofs::Marking::mark_of_number))]
@@ -190,19 +191,90 @@ fn mark_of(marks: &[Mark], number: usize) -> Option<Mark>
     marks.get(number - 1).copied()
 }
 
-// The event of a stretch that begins with the taking of a line that is for nothing.
-fn unused_event(line: Line) -> Event
-    ensures { result ≡ unused_event line }
-{
-    if line.0 < FIRST_COUNTER_LINE {
-        Event::Enter(u32::MAX)
-    } else {
-        Event::Tick(u32::MAX)
-    }
-}
-
 fn register(regs: &[u32; 32], number: u8) -> u32
     ensures { result ≡ slice_index regs.now number }
 {
     regs.get(usize::from(number)).copied().unwrap_or(0)
+}
+
+/// For each word from the first mark's to the last one's: the place of its mark plus 1, or 0 where it has none.
+#[derive(Drop)]
+pub struct MarkTable {
+    from: u32,
+    numbers: Vec<usize>,
+}
+
+impl Model for MarkTable {
+    ghost use Rattle.observe.specs.MarkTable.{Table};
+
+    ghost Value = { Table };
+
+    ghost view = { λ table. record { from = table.from; numbers = table.numbers.items } };
+}
+
+// The place of the word at an address, in a table from another address on.
+#[inline(always)]
+fn entry_place(from: u32, address: u32) -> Option<usize>
+    ensures { result ≡ entry_place from address }
+{
+    if address < from || (address - from) % 4 != 0 {
+        return None;
+    }
+    Some(((address - from) / 4) as usize)
+}
+
+#[inline(always)]
+fn number_in(numbers: &[usize], place: Option<usize>) -> usize
+    ensures { result ≡ number_in numbers.now place }
+{
+    match place {
+        Some(place) if place < numbers.len() => numbers[place],
+        _ => 0,
+    }
+}
+
+// Writes a number into a place that has none; whether there is one.
+fn place_number(numbers: &mut Vec<usize>, place: Option<usize>, number: usize) -> bool
+    ensures { result ≡ true → IsPlaced place number numbers.old.items numbers.new.items }
+{
+    let Some(place) = place else { return false };
+    if place >= numbers.len() || numbers[place] != 0 {
+        return false;
+    }
+    numbers[place] = number;
+    true
+}
+
+impl MarkTable {
+    /// The table of these marks, if each has a word of its own and they lie within as many bytes as memory has.
+    pub fn of(alloc: Global, marks: &[Mark]) -> Result<Option<MarkTable>>
+        ensures { IfOk result (λ table. IfSome table (IsMarkTable marks.now)) }
+    {
+        let Some(first) = marks.first() else {
+            return Ok(None);
+        };
+        let Some(last) = marks.last() else {
+            return Ok(None);
+        };
+        let from = first.address;
+        let words = (last.address.saturating_sub(from) / 4) as usize + 1;
+        if words > MEMORY_BYTES / 4 {
+            return Ok(None);
+        }
+        let mut numbers = vec![in alloc; 0; words]?;
+        for (index, mark) in marks.iter().enumerate() {
+            if !place_number(&mut numbers, entry_place(from, mark.address), index + 1) {
+                return Ok(None);
+            }
+        }
+        Ok(Some(MarkTable { from, numbers }))
+    }
+
+    /// The place of the mark of the word at an address and 1 more, or 0.
+    #[inline(always)]
+    pub fn number(&self, address: u32) -> usize
+        ensures { result ≡ number_at self.now address }
+    {
+        number_in(&self.numbers, entry_place(self.from, address))
+    }
 }

@@ -8,7 +8,6 @@
 
 pub mod image_view;
 pub mod laws;
-pub mod mark_table;
 pub mod observing;
 mod touches;
 

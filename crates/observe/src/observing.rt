@@ -1,15 +1,15 @@
 //! An observer that is fed one step at a time.
-ghost use Rattle.std.specs.Prelude.{◌≡◌, ◌<◌, ◌+◌, ◌++◌, ◌∷◌, [], true, false, ℕ, List, length, take_while, nat_le, IfSome, IfNone, OnSome, IsOk, IfOk, IsNone, ◌↔◌};
+ghost use Rattle.std.specs.Prelude.{◌≡◌, ◌<◌, ◌+◌, ◌++◌, ◌∷◌, [], true, false, ℕ, List, length, take_while, nat_le};
+ghost use Rattle.std.specs.Prelude.{IfSome, IfNone, OnSome, IsOk, IfOk, IsNone, ◌↔◌};
 ghost use Rattle.observe.specs.Pieces.{begins};
 ghost use Rattle.observe.specs.Progress.{begins_by};
 ghost use Rattle.observe.specs.Observe.{admission, mark_at, observe, view_of_image};
 ghost use Rattle.sloth_base.specs.ImageRange.{AreAscending};
 
-use crate::image_view::ImageView;
-use crate::mark_table::MarkTable;
+use crate::image_view::{ImageView, MarkTable};
 use crate::touches::{Touches, skip_early, skip_late};
 use sloth_base::numbers::Owners;
-use sloth_base::{Arrival, Image, Line, NoMemory, Stamp, Stamped, Step};
+use sloth_base::{Arrival, Image, Line, Result, Stamp, Stamped, Step};
 use std::alloc::Global;
 
 /// The events of the steps that it was fed. It keeps the image's marks and the arrivals lent, and one open stretch.
@@ -39,14 +39,13 @@ impl<'a> Observer<'a> {
     ghost use Rattle.sloth_base.specs.Arrivals.{AreRisingMoments};
     ghost use Rattle.observe.specs.MarkTable.{IsMarkTable};
     ghost use Rattle.observe.specs.Touches.{HasPlace, noted_touches};
-    ghost use Rattle.observe.specs.Progress.{HasProgress, progress_of, view_of, arrivals_of, expected_count, remaining, arrivals_due, passed_count, joined_progress, progress_behind_stretch, advanced_progress, one_or_none, settled_progress, begins_by, is_shown, step_of_parts};
+    ghost use Rattle.observe.specs.Progress.{HasProgress, progress_of, view_of, arrivals_of, expected_count, remaining};
+    ghost use Rattle.observe.specs.Progress.{arrivals_due, passed_count, joined_progress, progress_behind_stretch};
+    ghost use Rattle.observe.specs.Progress.{advanced_progress, one_or_none, settled_progress, begins_by, is_shown};
+    ghost use Rattle.observe.specs.Progress.{step_of_parts};
 
     /// An observer of a run of the image with these arrivals, which has seen no step. It needs no memory of its own.
-    pub fn new(
-        _alloc: Global,
-        image: &'a Image,
-        arrivals: &'a [Arrival],
-    ) -> Result<Observer<'a>, NoMemory>
+    pub fn new(_alloc: Global, image: &'a Image, arrivals: &'a [Arrival]) -> Result<Observer<'a>>
         requires ascending { AreAscending image.now.marks }
         requires ordered { AreRisingMoments 0 arrivals.now }
         ensures answers { IsOk result }
@@ -60,11 +59,7 @@ impl<'a> Observer<'a> {
     }
 
     /// The same with a table of the marks, which takes memory for each word between the first and the last of them.
-    pub fn indexed(
-        alloc: Global,
-        image: &'a Image,
-        arrivals: &'a [Arrival],
-    ) -> Result<Observer<'a>, NoMemory>
+    pub fn indexed(alloc: Global, image: &'a Image, arrivals: &'a [Arrival]) -> Result<Observer<'a>>
         requires ascending { AreAscending image.now.marks }
         requires ordered { AreRisingMoments 0 arrivals.now }
         ensures fed { IfOk result (λ o. HasProgress o [] []) }
@@ -77,7 +72,6 @@ impl<'a> Observer<'a> {
         Ok(Observer::over(image, arrivals, table))
     }
 
-    // An observer that has seen no step.
     fn over(image: &'a Image, arrivals: &'a [Arrival], table: Option<MarkTable>) -> Observer<'a>
         requires ascending { AreAscending image.now.marks }
         requires ordered { AreRisingMoments 0 arrivals.now }
@@ -137,7 +131,8 @@ impl<'a> Observer<'a> {
     #[inline(always)]
     fn join(&mut self, step: &Step)
         ensures place { HasPlace step.now }
-        ensures joined { IfSome self.old.first (λ first. progress_of self.new ≡ joined_progress (view_of self.old) (progress_of self.old) first step.now) }
+        ensures joined { IfSome self.old.first (λ first. progress_of self.new
+            ≡ joined_progress (view_of self.old) (progress_of self.old) first step.now) }
         ensures view { view_of self.new ≡ view_of self.old }
         ensures arrivals { arrivals_of self.new ≡ arrivals_of self.old }
     {
@@ -149,10 +144,10 @@ impl<'a> Observer<'a> {
         }
     }
 
-    // The stretch of the first step ends with this one.
     #[inline(never)]
     fn close(&mut self, first: &Step, last: &Step)
-        ensures closed { progress_of self.new ≡ progress_behind_stretch (view_of self.old) (progress_of self.old) first.now last.now }
+        ensures closed { progress_of self.new ≡ progress_behind_stretch (view_of self.old)
+            (progress_of self.old) first.now last.now }
         ensures view { view_of self.new ≡ view_of self.old }
         ensures arrivals { arrivals_of self.new ≡ arrivals_of self.old }
     {
@@ -161,21 +156,18 @@ impl<'a> Observer<'a> {
             .split_at(self.inside.len().saturating_sub(self.coming.len()));
         self.first = None;
         self.before = within;
-        self.event = Some(Stamped {
-            stamp: Stamp {
-                from: first.count,
-                at: last.count,
-            },
-            event: self.view.stretch_event(first, last),
-        });
+        let (from, at) = (first.count, last.count);
+        let stamp = Stamp { from, at };
+        let event = self.view.stretch_event(first, last);
+        self.event = Some(Stamped { stamp, event });
         self.after = within;
     }
 
-    // Notes the line that the step of this count touches, if it touches one.
     #[inline(always)]
     fn note(&mut self, touched: &Option<Line>, count: u32)
         ensures place { IfSome touched.now (λ line. line < 256) }
-        ensures noted { progress_of self.new ≡ record (progress_of self.old) { touched = noted_touches touched.now count self.old.touched } }
+        ensures noted { progress_of self.new ≡ record (progress_of self.old)
+            { touched = noted_touches touched.now count self.old.touched } }
         ensures view { view_of self.new ≡ view_of self.old }
         ensures arrivals { arrivals_of self.new ≡ arrivals_of self.old }
     {
@@ -184,7 +176,6 @@ impl<'a> Observer<'a> {
         }
     }
 
-    // One step more.
     #[inline(always)]
     fn advance(&mut self, step: &Step)
         requires expected { step.now.count ≡ expected_count self.old }
@@ -221,7 +212,8 @@ impl<'a> Observer<'a> {
     pub fn feed(&mut self, step: &Step)
         requires expected { step.now.count ≡ expected_count self.old }
         requires drained { remaining self.old ≡ [] }
-        ensures fed { (steps : List AnyStep) (events : List AnyStamped) → HasProgress self.old steps events → HasProgress self.new (steps ++ step.now ∷ []) events }
+        ensures fed { (steps : List AnyStep) (events : List AnyStamped) → HasProgress self.old steps events
+            → HasProgress self.new (steps ++ step.now ∷ []) events }
         ensures view { view_of self.new ≡ view_of self.old }
         ensures arrivals { arrivals_of self.new ≡ arrivals_of self.old }
         ensures expected { expected_count self.new ≡ expected_count self.old + 1 }
@@ -234,7 +226,8 @@ impl<'a> Observer<'a> {
     fn pass_inside(&mut self, count: u32, enabled_after: bool, touched: &Option<Line>) -> bool
         requires expected { count ≡ expected_count self.old }
         ensures passed { result ≡ true → (enabled_after ≡ false) × IfSome touched.now (λ line. line < 256)
-            × (progress_of self.new ≡ record (passed_count (progress_of self.old) count) { touched = noted_touches touched.now count self.old.touched }) }
+            × (progress_of self.new ≡ record (passed_count (progress_of self.old) count)
+            { touched = noted_touches touched.now count self.old.touched }) }
         ensures left { result ≡ false → self.new ≡ self.old }
         ensures view { view_of self.new ≡ view_of self.old }
         ensures arrivals { arrivals_of self.new ≡ arrivals_of self.old }
@@ -258,8 +251,10 @@ impl<'a> Observer<'a> {
         enabled_after: bool,
     ) -> bool
         requires expected { count ≡ expected_count self.old }
-        ensures passed { result ≡ true → (begins_by count entered.now enabled_before enabled_after ≡ false) × (is_shown (mark_at (view_of self.old) pc) ≡ false)
-            × (progress_of self.new ≡ record (passed_count (progress_of self.old) count) { found = arrivals_due count self.old.coming.now }) }
+        ensures passed { result ≡ true → (begins_by count entered.now enabled_before enabled_after ≡ false)
+            × (is_shown (mark_at (view_of self.old) pc) ≡ false)
+            × (progress_of self.new ≡ record (passed_count (progress_of self.old) count)
+            { found = arrivals_due count self.old.coming.now }) }
         ensures left { result ≡ false → self.new ≡ self.old }
         ensures view { view_of self.new ≡ view_of self.old }
         ensures arrivals { arrivals_of self.new ≡ arrivals_of self.old }
@@ -285,8 +280,10 @@ impl<'a> Observer<'a> {
     ) -> bool
         requires expected { count ≡ expected_count self.old }
         requires drained { remaining self.old ≡ [] }
-        ensures fed { result ≡ true → (cur_before cur_after : ℕ) (regs : List ℕ) (steps : List AnyStep) (events : List AnyStamped) → HasProgress self.old steps events
-            → HasProgress self.new (steps ++ step_of_parts count pc entered.now enabled_before enabled_after touched.now cur_before cur_after regs ∷ []) events }
+        ensures fed { result ≡ true → (cur_before cur_after : ℕ) (regs : List ℕ) (steps : List AnyStep)
+            (events : List AnyStamped) → HasProgress self.old steps events
+            → HasProgress self.new (steps ++ step_of_parts count pc entered.now enabled_before enabled_after
+            touched.now cur_before cur_after regs ∷ []) events }
         ensures left { result ≡ false → self.new ≡ self.old }
         ensures view { view_of self.new ≡ view_of self.old }
         ensures arrivals { arrivals_of self.new ≡ arrivals_of self.old }
@@ -309,7 +306,6 @@ impl<'a> Observer<'a> {
             && self.after.is_empty()
     }
 
-    // Takes the next finished event off.
     #[inline(always)]
     fn pop(&mut self) -> Option<Stamped>
         ensures pops { remaining self.old ≡ one_or_none result ++ remaining self.new }
@@ -357,9 +353,11 @@ impl<'a> Observer<'a> {
     /// Hands out the next finished event.
     #[inline(always)]
     pub fn next(&mut self) -> Option<Stamped>
-        ensures some { IfSome result (λ event. (steps : List AnyStep) (events : List AnyStamped) → HasProgress self.old steps events
+        ensures some { IfSome result (λ event. (steps : List AnyStep) (events : List AnyStamped)
+            → HasProgress self.old steps events
             → HasProgress self.new steps (events ++ event ∷ [])) }
-        ensures none { IfNone result ((steps : List AnyStep) (events : List AnyStamped) → HasProgress self.old steps events
+        ensures none { IfNone result ((steps : List AnyStep) (events : List AnyStamped)
+            → HasProgress self.old steps events
             → HasProgress self.new steps events × (events ≡ observe (view_of self.old) (arrivals_of self.old) steps)) }
         ensures exact { (steps : List AnyStep) (events : List AnyStamped) → HasProgress self.old steps events
             → (IsNone result ↔ (events ≡ observe (view_of self.old) (arrivals_of self.old) steps)) }
@@ -391,12 +389,8 @@ pub fn passing(coming: &[Arrival], count: u32) -> usize
 fn begins(step: &Step) -> bool
     ensures { result ≡ begins step.now }
 {
-    begins_by(
-        step.count,
-        &step.entered,
-        step.enabled_before,
-        step.enabled_after,
-    )
+    let (before, after) = (step.enabled_before, step.enabled_after);
+    begins_by(step.count, &step.entered, before, after)
 }
 
 // The same of a step that is seen so.
@@ -410,11 +404,8 @@ fn begins_by(count: u32, entered: &Option<Line>, enabled_before: bool, enabled_a
 fn admit(view: &ImageView, arrival: &Arrival) -> Stamped
     ensures { result ≡ admission view.now arrival.now }
 {
-    Stamped {
-        stamp: Stamp {
-            from: arrival.at,
-            at: arrival.at,
-        },
-        event: view.arrival_event(arrival.line),
-    }
+    let (from, at) = (arrival.at, arrival.at);
+    let stamp = Stamp { from, at };
+    let event = view.arrival_event(arrival.line);
+    Stamped { stamp, event }
 }

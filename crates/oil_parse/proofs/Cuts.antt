@@ -12,16 +12,16 @@ use Rattle.sloth_base.specs.declared.refusal.Refusal.{Refusal}
 use Rattle.sloth_base.specs.Order.{IsNoLater, IsLeast, NoFault, ErrorIs}
 use Rattle.sloth_base.specs.declared.refusal.BuildError.{BuildError}
 use Rattle.sloth_base.specs.declared.refusal.BuildError.TheVariants.{Refused, Memory}
-use Rattle.oil_parse.specs.declared.pieces.PieceKind.{PieceKind}
-use Rattle.oil_parse.specs.declared.pieces.PieceKind.TheVariants as kind
+use Rattle.oil_parse.specs.declared.lexer.PieceKind.{PieceKind}
+use Rattle.oil_parse.specs.declared.lexer.PieceKind.TheVariants as kind
 use Rattle.oil_parse.specs.Bytes.{class_of}
 use Rattle.oil_parse.specs.Pieces.{IsTextPiece, is_one_blank, is_line_comment, is_block_comment, is_word, is_decimal, is_hexadecimal, is_text, is_sign, is_slash, is_stray, is_unclosed_comment, is_unclosed_text_lf, is_unclosed_text_end, TextPiece, IsCutInto, HasFront}
 use Rattle.oil_parse.specs.declared.tree.Token.{Token}
 use Rattle.oil_parse.specs.declared.lexer.Cutter.{Cutter}
 use Rattle.oil_parse.specs.Tokens.{Lexeme, lexeme, tokens_of, lexemes_by, slice_at, tokens_by, tokens_at, FaultOf, FaultBy, meaning, line_ends, TextFault, AreTokens, AreSlices, IsNoFault}
 use Rattle.oil_parse.specs.Cutting.{rest_of, front_meaning, HasCut, IsStopped}
-use Rattle.oil_parse.specs.declared.pieces.Meaning.{Meaning}
-use Rattle.oil_parse.specs.declared.pieces.Meaning.TheVariants.{Nothing, IsToken, IsFault}
+use Rattle.oil_parse.specs.declared.lexer.Meaning.{Meaning}
+use Rattle.oil_parse.specs.declared.lexer.Meaning.TheVariants.{Nothing, IsToken, IsFault}
 use Rattle.oil_parse.specs.Front.{front_piece}
 use Rattle.oil_parse.proofs.Fronts.{front_is, front_stands}
 

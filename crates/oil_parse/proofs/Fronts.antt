@@ -8,10 +8,10 @@ use Rattle.std.proofs.lemmas.Bool.{lt-ltb, le-ltb, eqb-true, cases_lt, and_parts
 use Rattle.std.proofs.lemmas.List.{append-nil, take-append-drop, get_or_past}
 use Rattle.std.proofs.lemmas.List.Folds.{length-prefix_len}
 use Rattle.std.proofs.Math.Seq.{get_or-append_seam, take-append_seam, drop-append_seam}
-use Rattle.oil_parse.specs.declared.bytes.Class.{Class}
-use Rattle.oil_parse.specs.declared.bytes.Class.TheVariants as class
-use Rattle.oil_parse.specs.declared.pieces.PieceKind.{PieceKind}
-use Rattle.oil_parse.specs.declared.pieces.PieceKind.TheVariants as kind
+use Rattle.oil_parse.specs.declared.lexer.Class.{Class}
+use Rattle.oil_parse.specs.declared.lexer.Class.TheVariants as class
+use Rattle.oil_parse.specs.declared.lexer.PieceKind.{PieceKind}
+use Rattle.oil_parse.specs.declared.lexer.PieceKind.TheVariants as kind
 use Rattle.oil_parse.specs.Bytes.{class_of, is_word_byte, is_digit, is_hex_digit, is_quoted, is_not_lf, is_blank, is_plain_sign}
 use Rattle.oil_parse.specs.Pieces.{IsTextPiece, is_one_blank, is_line_comment, is_block_comment, is_word, is_decimal, is_hexadecimal, is_text, is_sign, is_slash, is_stray, is_unclosed_comment, is_unclosed_text_lf, is_unclosed_text_end, begins_hex, EachPasses, IsRunEnd, HasNoCommentEnd, HasFront}
 use Rattle.oil_parse.specs.Front.{front_piece, piece_by, number_piece, slash_piece, text_piece, comment_piece, comment_length}

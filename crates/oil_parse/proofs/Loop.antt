@@ -24,7 +24,7 @@ use Rattle.oil_parse.specs.declared.machine.Construct.TheVariants.{Head, Section
 use Rattle.oil_parse.specs.declared.machine.Expect.{Expect}
 use Rattle.oil_parse.specs.declared.machine.Expect.TheVariants.{Start, VersionIs, VersionText, Ending, Describing, Closing, Body, SectionName, SectionOpen, Inside, CpuWord, CpuName, CpuOpen, Objects, ObjectName, ObjectTail, Attrs, AttrIs, AttrValue, AttrTail, Done}
 use Rattle.oil_parse.specs.Shapes.{shape, shape_by}
-use Rattle.oil_parse.specs.declared.parser.Parser.{Parser}
+use Rattle.oil_parse.specs.declared.tree.Parser.{Parser}
 use Rattle.oil_parse.specs.declared.tree.OilTree.{OilTree}
 use Rattle.oil_parse.specs.Grammar.{IsFile}
 use Rattle.oil_parse.specs.Faults.{GrammarFault}

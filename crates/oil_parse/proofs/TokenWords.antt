@@ -5,9 +5,9 @@ use Rattle.std.specs.Char.{is_ascii_digit}
 use Rattle.std.specs.List.{AllByRecursion}
 use Rattle.std.proofs.lemmas.List.Elements.{All-from_recursion}
 use Rattle.sloth_base.specs.ImageRange.{IsWord, begins_word, continues_word}
-use Rattle.oil_parse.specs.declared.bytes.Class.TheVariants as class
+use Rattle.oil_parse.specs.declared.lexer.Class.TheVariants as class
 use Rattle.oil_parse.specs.declared.tree.TokenKind.TheVariants as token
-use Rattle.oil_parse.specs.declared.pieces.PieceKind.{PieceKind}
+use Rattle.oil_parse.specs.declared.lexer.PieceKind.{PieceKind}
 use Rattle.oil_parse.specs.Bytes.{class_of, is_word_byte, is_blank, is_plain_sign}
 use Rattle.oil_parse.specs.Pieces.{EachPasses, IsTextPiece, is_word, is_decimal, is_hexadecimal, is_text, is_sign, is_slash, TextPiece, IsCutInto}
 use Rattle.oil_parse.specs.Tokens.{Lexeme, meaning, line_ends, lexemes_by, tokens_of, AreTokens}

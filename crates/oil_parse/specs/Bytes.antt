@@ -3,8 +3,8 @@ use Rattle.std.specs.Prelude.{ℕ, Bool, if◌then◌else◌, ◌||◌, ◌&&◌
 use Rattle.std.specs.List.{list_any}
 use Rattle.std.specs.Char.{is_ascii_digit, is_ascii_alphabetic, is_ascii_hexdigit}
 use Rattle.sloth_base.specs.ImageRange.{continues_word}
-use Rattle.oil_parse.specs.declared.bytes.Class.{Class}
-use Rattle.oil_parse.specs.declared.bytes.Class.TheVariants as class
+use Rattle.oil_parse.specs.declared.lexer.Class.{Class}
+use Rattle.oil_parse.specs.declared.lexer.Class.TheVariants as class
 
 -- the signs but `/`, which may begin a comment: { } = ; : , . [ ] ( ) < > + - *
 abbrev pub is_plain_sign : ℕ → Bool

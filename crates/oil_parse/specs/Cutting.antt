@@ -2,8 +2,8 @@
 use Rattle.std.specs.Prelude.{◌≡◌, ℕ, ◌+◌, List, ◌++◌, take, drop}
 use Rattle.sloth_base.specs.declared.refusal.BuildError.{BuildError}
 use Rattle.oil_parse.specs.declared.lexer.Cutter.{Cutter}
-use Rattle.oil_parse.specs.declared.pieces.Meaning.{Meaning}
-use Rattle.oil_parse.specs.declared.pieces.PieceKind.{PieceKind}
+use Rattle.oil_parse.specs.declared.lexer.Meaning.{Meaning}
+use Rattle.oil_parse.specs.declared.lexer.PieceKind.{PieceKind}
 use Rattle.oil_parse.specs.Pieces.{HasFront}
 use Rattle.oil_parse.specs.Tokens.{meaning, line_ends, slice_at, tokens_by, IsNoFault, RefusedBy}
 

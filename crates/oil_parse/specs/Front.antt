@@ -1,12 +1,12 @@
 -- The piece at the front of a text: its kind and its length.
 use Rattle.std.specs.Prelude.{ℕ, ◌+◌, Bool, if◌then◌else◌, ◌==◌, List, [], ◌∷◌, length, slice_index, nat_lt, drop}
 use Rattle.std.specs.List.{prefix_len}
-use Rattle.oil_parse.specs.declared.bytes.Class.{Class}
-use Rattle.oil_parse.specs.declared.bytes.Class.TheVariants as class
-use Rattle.oil_parse.specs.declared.bytes.Run.{Run}
-use Rattle.oil_parse.specs.declared.bytes.Run.TheVariants.{WordBytes, Digits, HexDigits, Quoted, CommentLine}
-use Rattle.oil_parse.specs.declared.pieces.PieceKind.{PieceKind}
-use Rattle.oil_parse.specs.declared.pieces.PieceKind.TheVariants as kind
+use Rattle.oil_parse.specs.declared.lexer.Class.{Class}
+use Rattle.oil_parse.specs.declared.lexer.Class.TheVariants as class
+use Rattle.oil_parse.specs.declared.lexer.Run.{Run}
+use Rattle.oil_parse.specs.declared.lexer.Run.TheVariants.{WordBytes, Digits, HexDigits, Quoted, CommentLine}
+use Rattle.oil_parse.specs.declared.lexer.PieceKind.{PieceKind}
+use Rattle.oil_parse.specs.declared.lexer.PieceKind.TheVariants as kind
 use Rattle.oil_parse.specs.Bytes.{class_of, is_word_byte, is_digit, is_hex_digit, is_quoted, is_not_lf}
 use Rattle.oil_parse.specs.Pieces.{is_comment_end, begins_hex}
 

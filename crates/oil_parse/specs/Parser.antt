@@ -7,7 +7,7 @@ use Rattle.sloth_base.specs.declared.refusal.BuildError.TheVariants.{Refused, Me
 use Rattle.sloth_base.specs.Search.{lesser}
 use Rattle.oil_parse.specs.Tokens.{Lexeme}
 use Rattle.oil_parse.specs.declared.tree.Draft.{Draft}
-use Rattle.oil_parse.specs.declared.parser.Parser.{Parser}
+use Rattle.oil_parse.specs.declared.tree.Parser.{Parser}
 use Rattle.oil_parse.specs.Shapes.{shape}
 use Rattle.oil_parse.specs.Steps.{next}
 use Rattle.oil_parse.specs.Machine.{partial_tree_after, PartialTree, least_fault_after}

@@ -1,8 +1,8 @@
 -- How an OIL text falls into pieces: blanks, comments, tokens, and what is none of these (OIL 2.5, section 5).
 use Rattle.std.specs.Prelude.{◌≡◌, ℕ, ◌<◌, ◌≤◌, Bool, true, false, ◌||◌, ◌&&◌, ◌==◌, List, [], ◌∷◌, ◌++◌, length, slice_index, take, drop}
-use Rattle.oil_parse.specs.declared.bytes.Class.TheVariants as class
-use Rattle.oil_parse.specs.declared.pieces.PieceKind.{PieceKind}
-use Rattle.oil_parse.specs.declared.pieces.PieceKind.TheVariants as kind
+use Rattle.oil_parse.specs.declared.lexer.Class.TheVariants as class
+use Rattle.oil_parse.specs.declared.lexer.PieceKind.{PieceKind}
+use Rattle.oil_parse.specs.declared.lexer.PieceKind.TheVariants as kind
 use Rattle.oil_parse.specs.Bytes.{class_of, is_word_byte, is_digit, is_hex_digit, is_quoted, is_not_lf}
 
 -- each byte passes the test

@@ -9,10 +9,10 @@ use Rattle.sloth_base.specs.declared.refusal.BuildError.TheVariants.{Refused, Me
 use Rattle.oil_parse.specs.declared.tree.TokenKind.{TokenKind}
 use Rattle.oil_parse.specs.declared.tree.TokenKind.TheVariants as token
 use Rattle.oil_parse.specs.declared.tree.Token.{Token}
-use Rattle.oil_parse.specs.declared.pieces.Meaning.{Meaning}
-use Rattle.oil_parse.specs.declared.pieces.Meaning.TheVariants.{Nothing, IsToken, IsFault}
-use Rattle.oil_parse.specs.declared.pieces.PieceKind.{PieceKind}
-use Rattle.oil_parse.specs.declared.pieces.PieceKind.TheVariants as kind
+use Rattle.oil_parse.specs.declared.lexer.Meaning.{Meaning}
+use Rattle.oil_parse.specs.declared.lexer.Meaning.TheVariants.{Nothing, IsToken, IsFault}
+use Rattle.oil_parse.specs.declared.lexer.PieceKind.{PieceKind}
+use Rattle.oil_parse.specs.declared.lexer.PieceKind.TheVariants as kind
 use Rattle.text_pieces.specs.Digits.{value_from, capped_value}
 use Rattle.oil_parse.specs.Pieces.{TextPiece, IsCutInto}
 

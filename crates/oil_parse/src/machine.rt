@@ -2,10 +2,11 @@
 
 ghost use Rattle.std.specs.Prelude.{◌≡◌, ◌↔◌, IsTrue};
 ghost use Rattle.oil_parse.specs.Tokens.{lexeme};
-ghost use Rattle.oil_parse.specs.Shapes.{shape, key_of, sign_of};
-ghost use Rattle.oil_parse.specs.Steps.{next, behind, closed_construct, expectation_behind, IsShallow};
+ghost use Rattle.oil_parse.specs.Shapes.{shape};
+ghost use Rattle.oil_parse.specs.Steps.{next, behind, IsShallow};
 
 use crate::{Token, TokenKind};
+use text_pieces::same;
 
 /// The words that the grammar names.
 #[derive(Clone, Copy)]
@@ -67,48 +68,30 @@ pub enum Expect {
     Done,
 }
 
-/// Which of the grammar's words this is.
-#[tactic(auto, unfolding(crate::specs::Shapes::key_of))]
-fn word_key(word: &[u8]) -> Key
-    ensures { result ≡ key_of word.now }
-{
-    if word == b"OIL_VERSION".as_slice() {
-        Key::Version
-    } else if word == b"IMPLEMENTATION".as_slice() {
-        Key::Implementation
-    } else if word == b"CPU".as_slice() {
-        Key::Cpu
-    } else {
-        Key::Plain
-    }
-}
-
-/// Which of the grammar's signs this is.
-#[tactic(auto, unfolding(crate::specs::Shapes::sign_of))]
-fn sign_shape(sign: &[u8]) -> Shape
-    ensures { result ≡ sign_of sign.now }
-{
-    let first = if sign.is_empty() { 0 } else { sign[0] };
-    match first {
-        b'{' => Shape::Open,
-        b'}' => Shape::Close,
-        b'=' => Shape::Equals,
-        b';' => Shape::Semicolon,
-        b':' => Shape::Colon,
-        _ => Shape::Other,
-    }
-}
-
 /// What the grammar sees of this token.
-#[tactic(auto, unfolding(crate::specs::Shapes::shape_by))]
+#[tactic(auto, unfolding(crate::specs::Shapes::shape_by, crate::specs::Shapes::key_of, crate::specs::Shapes::sign_of))]
 pub fn token_shape(token: &Token) -> Shape
     ensures { result ≡ shape (lexeme token.now) }
 {
+    let span = token.span;
     match token.kind {
-        TokenKind::Word => Shape::Word(word_key(token.span)),
+        TokenKind::Word if same(span, b"OIL_VERSION") => Shape::Word(Key::Version),
+        TokenKind::Word if same(span, b"IMPLEMENTATION") => Shape::Word(Key::Implementation),
+        TokenKind::Word if same(span, b"CPU") => Shape::Word(Key::Cpu),
+        TokenKind::Word => Shape::Word(Key::Plain),
         TokenKind::Number(value) => Shape::Number(value),
         TokenKind::Text => Shape::Text,
-        TokenKind::Sign => sign_shape(token.span),
+        TokenKind::Sign => {
+            let first = if span.is_empty() { 0 } else { span[0] };
+            match first {
+                b'{' => Shape::Open,
+                b'}' => Shape::Close,
+                b'=' => Shape::Equals,
+                b';' => Shape::Semicolon,
+                b':' => Shape::Colon,
+                _ => Shape::Other,
+            }
+        }
     }
 }
 
@@ -122,28 +105,6 @@ fn behind(construct: Construct) -> Expect
         Construct::Object => Expect::Objects,
         Construct::Attr(depth) => Expect::Attrs(depth),
         Construct::File => Expect::Done,
-    }
-}
-
-/// What a `}` of attributes closes.
-fn closed(depth: u32) -> Construct
-    ensures { result ≡ closed_construct depth }
-{
-    if depth == 0 {
-        Construct::Object
-    } else {
-        Construct::Attr(depth - 1)
-    }
-}
-
-/// What comes behind a `}` in a section IMPLEMENTATION.
-fn left(count: usize) -> Expect
-    ensures { result ≡ expectation_behind count }
-{
-    if count == 0 {
-        Expect::Ending(Construct::Section)
-    } else {
-        Expect::Inside(count - 1)
     }
 }
 
@@ -166,7 +127,8 @@ pub fn next(expect: Expect, shape: Shape) -> Option<Expect>
         (Expect::SectionName, Shape::Word(_)) => Some(Expect::SectionOpen),
         (Expect::SectionOpen, Shape::Open) => Some(Expect::Inside(0)),
         (Expect::Inside(count), Shape::Open) => Some(Expect::Inside(count + 1)),
-        (Expect::Inside(count), Shape::Close) => Some(left(count)),
+        (Expect::Inside(0), Shape::Close) => Some(Expect::Ending(Construct::Section)),
+        (Expect::Inside(count), Shape::Close) => Some(Expect::Inside(count - 1)),
         (Expect::Inside(count), _) => Some(Expect::Inside(count)),
         (Expect::CpuWord, Shape::Word(Key::Cpu)) => Some(Expect::CpuName),
         (Expect::CpuName, Shape::Word(_)) => Some(Expect::CpuOpen),
@@ -178,7 +140,8 @@ pub fn next(expect: Expect, shape: Shape) -> Option<Expect>
         (Expect::ObjectTail, Shape::Colon) => Some(Expect::Describing(Construct::Object)),
         (Expect::ObjectTail, Shape::Semicolon) => Some(Expect::Objects),
         (Expect::Attrs(depth), Shape::Word(_)) => Some(Expect::AttrIs(depth)),
-        (Expect::Attrs(depth), Shape::Close) => Some(Expect::Ending(closed(depth))),
+        (Expect::Attrs(0), Shape::Close) => Some(Expect::Ending(Construct::Object)),
+        (Expect::Attrs(depth), Shape::Close) => Some(Expect::Ending(Construct::Attr(depth - 1))),
         (Expect::AttrIs(depth), Shape::Equals) => Some(Expect::AttrValue(depth)),
         (Expect::AttrValue(depth), Shape::Word(_) | Shape::Number(_) | Shape::Text) => Some(
             Expect::AttrTail(depth),

@@ -1,12 +1,20 @@
-//! The tree of an OIL text. The tree as it grows. Tokens.
-ghost use Rattle.std.specs.Prelude.{◌≡◌, IfOk, OnOk};
-ghost use Rattle.oil_parse.specs.Tokens.{lexeme};
-ghost use Rattle.oil_parse.specs.Grammar.{value_by};
-ghost use Rattle.oil_parse.specs.Machine.{partial_tree_after, whole_object, nothing_built, ValueFits, TakesFit, with_attr};
-ghost use Rattle.oil_parse.specs.Parser.{draft};
+//! The tree of an OIL text. The tree as it grows. Tokens. Reads tokens into a tree.
+ghost use Rattle.std.specs.Prelude.{◌≡◌, IfOk, OnOk, List, ℕ, ◌↔◌, ◌⊎◌, All, map, IfErr};
+ghost use Rattle.oil_parse.specs.Tokens.{lexeme, Lexeme, AreTokens, TextFault};
+ghost use Rattle.oil_parse.specs.Grammar.{value_by, IsFile};
+ghost use Rattle.oil_parse.specs.Machine.{partial_tree_after, whole_object, nothing_built, ValueFits, TakesFit, with_attr, too_big};
+ghost use Rattle.oil_parse.specs.Parser.{draft, IsTokenStep, StopsWith};
+ghost use Rattle.sloth_base.specs.Order.{ErrorIs, NoFault};
+ghost use Rattle.sloth_base.specs.declared.refusal.Refusal.{Refusal};
+ghost use Rattle.oil_parse.specs.declared.tree.OilTree.{OilTree};
+ghost use Rattle.oil_parse.specs.Faults.{GrammarFault};
+ghost use Rattle.oil_parse.specs.Text.{HasTree, HasGrammarFault};
+ghost use Rattle.oil_parse.specs.Words.{IsObjectOfWords};
+ghost use Rattle.oil_parse.specs.Steps.{IsShallow};
 
-use crate::machine::{Construct, Expect, Shape};
-use sloth_base::{List, Name, NoMemory, Result};
+use crate::machine::{Construct, Expect, Shape, next, token_shape};
+use sloth_base::refusal::lesser;
+use sloth_base::{BuildError, Code, List, Name, NoMemory, Part, Refusal, Result};
 use std::alloc::Global;
 use std::mem;
 
@@ -63,21 +71,14 @@ pub struct Draft<'a> {
     pub attr_line: u32,
 }
 
-/// The value that a token is.
 fn attr_value(alloc: Global, kind: TokenKind, bytes: &[u8]) -> Result<OilValue>
     requires { ValueFits kind }
     ensures { IfOk result (λ value. value ≡ value_by kind bytes.now) }
 {
     match kind {
-        TokenKind::Word => {
-            let name = Name::new(alloc, bytes)?;
-            Ok(OilValue::Word(name))
-        },
+        TokenKind::Word => Ok(OilValue::Word(Name::new(alloc, bytes)?)),
         TokenKind::Number(value) => Ok(OilValue::Number(value as u32)),
-        TokenKind::Text | TokenKind::Sign => {
-            let name = Name::new(alloc, bytes)?;
-            Ok(OilValue::Text(name))
-        },
+        TokenKind::Text | TokenKind::Sign => Ok(OilValue::Text(Name::new(alloc, bytes)?)),
     }
 }
 
@@ -97,32 +98,25 @@ impl<'a> Draft<'a> {
         }
     }
 
-    /// The object is whole.
     fn push_object(&mut self, alloc: Global) -> Result<()>
         ensures { OnOk result (draft self.new ≡ whole_object (draft self.old)) }
     {
-        let kind = Name::new(alloc, self.kind)?;
-        let name = Name::new(alloc, self.name)?;
-        let attrs = mem::replace(&mut self.attrs, Vec::new(alloc));
         let object = OilObject {
-            kind,
-            name,
+            kind: Name::new(alloc, self.kind)?,
+            name: Name::new(alloc, self.name)?,
             line: self.line,
-            attrs: List::from_vec(attrs),
+            attrs: List::from_vec(mem::replace(&mut self.attrs, Vec::new(alloc))),
         };
         self.objects.push(object).map_err(|_| NoMemory)
     }
 
-    /// The attribute has its value.
     fn push_attr(&mut self, alloc: Global, depth: u32, kind: TokenKind, bytes: &[u8]) -> Result<()>
         requires { ValueFits kind }
         ensures { OnOk result (draft self.new ≡ with_attr (draft self.old) depth kind bytes.now) }
     {
-        let name = Name::new(alloc, self.attr_name)?;
-        let value = attr_value(alloc, kind, bytes)?;
         let attr = OilAttr {
-            name,
-            value,
+            name: Name::new(alloc, self.attr_name)?,
+            value: attr_value(alloc, kind, bytes)?,
             line: self.attr_line,
             depth,
         };
@@ -131,17 +125,11 @@ impl<'a> Draft<'a> {
 
     /// Takes what a token adds where it stands.
     #[tactic(auto, unfolding(crate::specs::Machine::partial_tree_after))]
-    pub fn take(
-        &mut self,
-        alloc: Global,
-        expect: Expect,
-        shape: Shape,
-        token: &Token<'a>,
-    ) -> Result<()>
-        requires { TakesFit expect token.now.kind }
-        ensures { OnOk result (draft self.new ≡ partial_tree_after expect shape (lexeme token.now) (draft self.old)) }
+    pub fn take(&mut self, alloc: Global, at: Expect, shape: Shape, token: &Token<'a>) -> Result<()>
+        requires { TakesFit at token.now.kind }
+        ensures { OnOk result (draft self.new ≡ partial_tree_after at shape (lexeme token.now) (draft self.old)) }
     {
-        match (expect, shape) {
+        match (at, shape) {
             (Expect::Body | Expect::CpuWord, _) => {
                 self.cpu_line = token.line;
                 Ok(())
@@ -189,3 +177,101 @@ pub struct Token<'a> {
     pub line: u32,
     pub span: &'a [u8],
 }
+
+/// What was read so far, what may come next, the last token's line and the least refusal.
+#[derive(Drop)]
+pub struct Parser<'a> {
+    pub expect: Expect,
+    pub last: u32,
+    pub least: Option<Refusal>,
+    pub draft: Draft<'a>,
+}
+
+pub(crate) fn oil(line: u32, code: Code) -> Refusal
+    ensures { result ≡ record { part = Part.Oil; line = line; code = code } }
+{
+    Refusal {
+        part: Part::Oil,
+        line,
+        code,
+    }
+}
+
+fn too_big(expect: Expect, shape: Shape) -> bool
+    ensures { result ≡ too_big expect shape }
+{
+    matches!((expect, shape), (Expect::AttrValue(_), Shape::Number(value)) if value > 4_294_967_295)
+}
+
+impl<'a> Parser<'a> {
+    fn read(&mut self, alloc: Global, token: &Token<'a>) -> Result<(), BuildError>
+        requires { IsShallow self.old.expect }
+        ensures moved { OnOk result (IsTokenStep self.old self.new (lexeme token.now)) }
+        ensures stopped { IfErr result (λ error. StopsWith self.old (lexeme token.now) error) }
+    {
+        let shape = token_shape(token);
+        let line = token.line;
+        let Some(after) = next(self.expect, shape) else {
+            return Err(BuildError::Refused(lesser(self.least, oil(line, Code::O5))));
+        };
+        if too_big(self.expect, shape) {
+            self.least = Some(lesser(self.least, oil(line, Code::O4)));
+            self.expect = after;
+            self.last = line;
+            return Ok(());
+        }
+        if self.least.is_none() && self.draft.take(alloc, self.expect, shape, token).is_err() {
+            return Err(BuildError::Memory);
+        }
+        self.expect = after;
+        self.last = line;
+        Ok(())
+    }
+}
+
+/// The tree of the tokens, or their least fault: O4 for a number above 4,294,967,295, O5 for the first token that the
+/// grammar does not allow, O6 where the tokens end too early.
+pub fn parse(alloc: Global, tokens: &[Token]) -> Result<OilTree, BuildError>
+    ensures tree { IfOk result (λ tree. IsFile (map lexeme tokens.now) tree) }
+    ensures none { OnOk result (NoFault (GrammarFault (map lexeme tokens.now))) }
+    ensures refused { IfErr result (λ error. ErrorIs (GrammarFault (map lexeme tokens.now)) error) }
+{
+    let mut parser = Parser {
+        expect: Expect::Start,
+        last: 1,
+        least: None,
+        draft: Draft::new(alloc),
+    };
+    for token in tokens {
+        parser.read(alloc, token)?;
+    }
+    if !parser.expect.is_done() {
+        return Err(BuildError::Refused(lesser(parser.least, oil(parser.last, Code::O6))));
+    }
+    match parser.least {
+        Some(least) => Err(BuildError::Refused(least)),
+        None => Ok(OilTree {
+            cpu_line: parser.draft.cpu_line,
+            objects: List::from_vec(parser.draft.objects),
+        }),
+    }
+}
+
+/// Tokens have at most one tree, and so has a text. The faults of a text's grammar are those of its tokens. Each text
+/// has a fault of its own, breaks the grammar, or has a tree, and never both of the last two.
+pub fn one_tree()
+    ensures file { (tokens : List Lexeme) (tree other : OilTree) → IsFile tokens tree → IsFile tokens other → tree
+        ≡ other }
+    ensures text { (text : List ℕ) (tree other : OilTree) → HasTree text tree → HasTree text other → tree ≡ other }
+    ensures faults { (text : List ℕ) (tokens : List Lexeme) → AreTokens text tokens → NoFault (TextFault text)
+        → (refusal : Refusal) → HasGrammarFault text refusal ↔ GrammarFault tokens refusal }
+    ensures each { (text : List ℕ) → ((refusal : Refusal) × TextFault text refusal)
+        ⊎ (((refusal : Refusal) × HasGrammarFault text refusal) ⊎ ((tree : OilTree) × HasTree text tree)) }
+    ensures one { (text : List ℕ) (tree : OilTree) (refusal : Refusal) → HasTree text tree → HasGrammarFault text
+        refusal → ⊥ }
+{}
+
+/// The kinds, names and words of a text's tree are words.
+pub fn words_of_tree()
+    ensures { (text : List ℕ) (tree : OilTree) → HasTree text tree → All IsObjectOfWords tree.objects }
+{}

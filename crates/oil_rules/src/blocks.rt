@@ -1,19 +1,19 @@
 //! The blocks of an object's attributes.
 //! What the action and the start of an alarm lack, and which event its task does not list.
-//! The faults of the attributes in the blocks of an alarm.
+//! The faults of the attributes in the blocks of an alarm. The faults in the blocks of alarms.
 ghost use Rattle.std.specs.Prelude.{◌≡◌, ◌≤◌, IfOk, length, option_copied, []};
 ghost use Rattle.std.specs.List.{take_while, prefix_len};
 ghost use Rattle.oil_rules.specs.Blocks.{is_inner, blocks_of, first_block, is_inner_use, is_used_in, first_in, number_in};
-ghost use Rattle.oil_rules.specs.AlarmFaults.{lacks_inner, lacks_behind, lacks_part, is_unlisted, InsideFault, BlockFault};
+ghost use Rattle.oil_rules.specs.AlarmFaults.{lacks_behind, lacks_part, is_unlisted, InsideFault, BlockFault, AlarmFault};
 ghost use Rattle.sloth_base.specs.Search.{IsSearchResult, Somewhere};
 
 use crate::{NamedTask, Verdict};
-use oil_parse::OilAttr;
+use oil_parse::{OilAttr, OilObject};
 use oil_table::{
-    EarlierUses, Limits, Place, TaskEvents, attribute_of, block_place, first_use, is_beyond,
-    is_second, is_use, number_of,
+    CounterLimits, EarlierUses, Limits, Place, TaskEvents, attribute_of, block_place, first_use,
+    is_beyond, is_of_kind, is_second, is_use, number_of,
 };
-use sloth_base::least_fault::{fault_if, merge};
+use sloth_base::refusal::{fault_if, merge};
 use sloth_base::{Code, Part, Refusal, Result};
 use std::alloc::Global;
 use std::marker::Model;
@@ -106,10 +106,7 @@ pub fn is_inner_use(attr: &OilAttr, name: &[u8]) -> bool
 pub fn is_used_in(inner: &[OilAttr], name: &[u8]) -> bool
     ensures { result ≡ is_used_in inner.now name.now }
 {
-    match first_in(inner, name) {
-        Some(_) => true,
-        None => false,
-    }
+    inner.iter().any(|attr| is_inner_use(attr, name))
 }
 
 /// The first use in a block.
@@ -129,24 +126,19 @@ pub fn number_in(inner: &[OilAttr], name: &[u8]) -> Option<u32>
     }
 }
 
-fn lacks_inner(place: Place, inner: &[OilAttr]) -> bool
-    ensures { result ≡ lacks_inner place inner.now }
-{
-    match place {
-        Place::Activating => !is_used_in(inner, b"TASK"),
-        Place::Setting => !(is_used_in(inner, b"TASK") && is_used_in(inner, b"EVENT")),
-        Place::Wakeup => { !(is_used_in(inner, b"ALARMTIME") && is_used_in(inner, b"CYCLETIME")) },
-        _ => false,
-    }
-}
-
 fn lacks_behind(attrs: &[OilAttr], name: &[u8]) -> bool
     ensures { result ≡ lacks_behind name.now attrs.now }
 {
     let Some(attr) = first_use(attrs, name) else {
         return false;
     };
-    lacks_inner(block_place(Place::Alarm, attr), first_block(attrs, name))
+    let inner = first_block(attrs, name);
+    match block_place(Place::Alarm, attr) {
+        Place::Activating => !is_used_in(inner, b"TASK"),
+        Place::Setting => !(is_used_in(inner, b"TASK") && is_used_in(inner, b"EVENT")),
+        Place::Wakeup => !(is_used_in(inner, b"ALARMTIME") && is_used_in(inner, b"CYCLETIME")),
+        _ => false,
+    }
 }
 
 /// Whether the action or the start of an alarm lacks a required attribute.
@@ -177,8 +169,7 @@ fn inner_fault(
     let line = attr.line;
     let row = attribute_of(place, attr.name.bytes());
     let second = fault_if(is_second(row, before, attr), Part::Oil, line, Code::O9);
-    let unlisted = is_unlisted(place, block, attr);
-    let unlisted = fault_if(unlisted, Part::Oil, line, Code::O10);
+    let unlisted = fault_if(is_unlisted(place, block, attr), Part::Oil, line, Code::O10);
     let beyond = fault_if(is_beyond(limits, row, attr), Part::Oil, line, Code::O12);
     merge(second, merge(unlisted, beyond))
 }
@@ -216,4 +207,49 @@ pub fn block_faults(alloc: Global, tasks: &TaskEvents, limits: Limits, blocks: &
         least = merge(least, found);
     }
     Ok(least)
+}
+
+fn alarm_faults(
+    alloc: Global,
+    tasks: &TaskEvents,
+    counters: &CounterLimits,
+    object: &OilObject,
+) -> Verdict
+    requires { counters.now ≡ tasks.now }
+    ensures { IfOk result (IsSearchResult (AlarmFault tasks.now [] object.now)) }
+{
+    if !is_of_kind(object, b"ALARM") {
+        return Ok(None);
+    }
+    let attrs = object.attrs.items();
+    let lacking = fault_if(lacks_part(attrs), Part::Oil, object.line, Code::O11);
+    let blocks = blocks_of(alloc, attrs)?;
+    let found = block_faults(alloc, tasks, counters.limits_of(attrs), blocks.as_slice())?;
+    Ok(merge(lacking, found))
+}
+
+fn judge_alarms(
+    alloc: Global,
+    tasks: &TaskEvents,
+    counters: &CounterLimits,
+    objects: &[OilObject],
+) -> Verdict
+    requires { counters.now ≡ tasks.now }
+    ensures { IfOk result (IsSearchResult (Somewhere (AlarmFault tasks.now) objects.now)) }
+{
+    let mut least = None;
+    for object in objects {
+        let found = alarm_faults(alloc, tasks, counters, object)?;
+        least = merge(least, found);
+    }
+    Ok(least)
+}
+
+/// The least fault in the blocks of the alarms among these objects.
+pub fn faults_of_alarms(alloc: Global, objects: &[OilObject]) -> Verdict
+    ensures { IfOk result (IsSearchResult (Somewhere (AlarmFault objects.now) objects.now)) }
+{
+    let tasks = TaskEvents::of(alloc, objects)?;
+    let counters = CounterLimits::of(alloc, objects)?;
+    judge_alarms(alloc, &tasks, &counters, objects)
 }

@@ -1,16 +1,24 @@
-//! The objects before one, and what of them bears on it.
-ghost use Rattle.std.specs.Prelude.{◌≡◌, ◌+◌, ◌<◌, ◌&&◌, ◌||◌, ◌==◌, ℕ, List, [], ◌∷◌, ◌++◌, if◌then◌else◌, IfOk, OnOk};
-ghost use Rattle.std.specs.Prelude.{bytes_eq, codes, count_by};
+//! The objects before one, and what of them bears on it. The faults of an object as a whole.
+ghost use Rattle.std.specs.Prelude.{◌≡◌, ◌+◌, ◌<◌, ◌&&◌, ◌||◌, ◌==◌, ℕ, List, [], ◌∷◌, ◌++◌, if◌then◌else◌, IfOk, OnOk, bytes_eq, codes, count_by};
 ghost use Rattle.std.specs.List.{list_any};
 ghost use Rattle.oil_table.specs.Objects.{is_declaration, is_declared, is_of_kind};
 ghost use Rattle.oil_rules.specs.TaskFaults.{has_priority};
+ghost use Rattle.sloth_base.specs.Search.{IsSearchResult};
+ghost use Rattle.oil_rules.specs.ObjectFaults.{is_double_of, is_doubled, lacks_attribute, is_strange_mode, is_above, KindFault, KnownFault};
 
 use indexmap::IndexSet;
 use oil_parse::OilObject;
-use oil_table::{first_number, insert, is_of_kind};
-use sloth_base::Result;
+use oil_table::{
+    comes_behind, declares, first_number, insert, is_clock_more, is_nowhere, is_of_kind, is_used,
+    place_of,
+};
+use sloth_base::refusal::{fault_if, merge};
+use sloth_base::{
+    Code, EVENT_LIMIT, NAME_LIMIT, Part, RESOURCE_LIMIT, Refusal, Result, TASK_LIMIT,
+};
 use std::alloc::Global;
 use std::marker::Model;
+use text_pieces::same;
 
 /// The objects before one: their kinds and names, the priorities of the tasks, and how many there are of a kind.
 pub struct Front<'t> {
@@ -176,11 +184,7 @@ fn more(count: usize, object: &OilObject, kind: &[u8]) -> usize
     requires { count < usize.MAX }
     ensures { result ≡ count + (if is_of_kind kind.now object.now then 1 else 0) }
 {
-    if is_of_kind(object, kind) {
-        count + 1
-    } else {
-        count
-    }
+    count + usize::from(is_of_kind(object, kind))
 }
 
 fn or_os(has_os: bool, object: &OilObject) -> bool
@@ -217,4 +221,81 @@ fn add<'t>(
     };
     insert(priorities, priority)?;
     Ok(())
+}
+
+fn is_second_os(front: &Front, object: &OilObject) -> bool
+    ensures { result ≡ (is_of_kind (codes "OS") object.now && list_any (is_of_kind (codes "OS")) front.now) }
+{
+    is_of_kind(object, b"OS") && front.has_os()
+}
+
+fn is_second(front: &Front, object: &OilObject) -> bool
+    ensures { result ≡ list_any (is_double_of object.now) front.now }
+{
+    front.has(object.kind.bytes(), object.name.bytes()) || is_second_os(front, object)
+}
+
+/// O9: an earlier object has its name, or it is a second OS, or a RES_SCHEDULER beside that of the system.
+pub fn is_doubled(scheduler: bool, front: &Front, object: &OilObject) -> bool
+    ensures { result ≡ is_doubled scheduler front.now object.now }
+{
+    let name = object.name.bytes();
+    is_second(front, object)
+        || (is_of_kind(object, b"TASK") && front.has(b"COUNTER", name))
+        || (is_of_kind(object, b"COUNTER") && front.has(b"TASK", name))
+        || (scheduler && declares(object, b"RESOURCE", b"RES_SCHEDULER"))
+}
+
+/// O11: it lacks an attribute that its kind must have.
+pub fn lacks_attribute(object: &OilObject) -> bool
+    ensures { result ≡ lacks_attribute object.now }
+{
+    let attrs = object.attrs.items();
+    (is_of_kind(object, b"TASK")
+        && !(is_used(attrs, b"PRIORITY")
+            && is_used(attrs, b"SCHEDULE")
+            && is_used(attrs, b"ACTIVATION")
+            && is_used(attrs, b"AUTOSTART")))
+        || (is_of_kind(object, b"COUNTER") && !is_used(attrs, b"MAXALLOWEDVALUE"))
+        || (is_of_kind(object, b"ALARM")
+            && !(is_used(attrs, b"COUNTER") && is_used(attrs, b"ACTION")))
+}
+
+/// O12: an application mode other than OSDEFAULTAPPMODE.
+pub fn is_strange_mode(object: &OilObject) -> bool
+    ensures { result ≡ is_strange_mode object.now }
+{
+    is_of_kind(object, b"APPMODE") && !same(object.name.bytes(), b"OSDEFAULTAPPMODE")
+}
+
+/// O14: one object too many of its kind, or a long name.
+pub fn is_above(front: &Front, object: &OilObject) -> bool
+    ensures { result ≡ is_above front.now object.now }
+{
+    comes_behind(b"TASK", TASK_LIMIT, front.tasks(), object)
+        || comes_behind(b"RESOURCE", RESOURCE_LIMIT, front.resources(), object)
+        || comes_behind(b"EVENT", EVENT_LIMIT, front.events(), object)
+        || is_clock_more(front.counters(), front.alarms(), object)
+        || NAME_LIMIT < object.name.bytes().len()
+}
+
+/// O7: an object of no kind.
+pub fn kind_fault(object: &OilObject) -> Option<Refusal>
+    ensures { IsSearchResult (KindFault object.now) result }
+{
+    let unknown = is_nowhere(place_of(object.kind.bytes()));
+    fault_if(unknown, Part::Oil, object.line, Code::O7)
+}
+
+/// O9, O11, O12 and O14 of an object of a kind.
+pub fn known_fault(scheduler: bool, front: &Front, object: &OilObject) -> Option<Refusal>
+    ensures { IsSearchResult (KnownFault scheduler front.now object.now) result }
+{
+    let line = object.line;
+    let doubled = is_doubled(scheduler, front, object);
+    let doubled = fault_if(doubled, Part::Oil, line, Code::O9);
+    let lacking = fault_if(lacks_attribute(object), Part::Oil, line, Code::O11);
+    let strange = fault_if(is_strange_mode(object), Part::Oil, line, Code::O12);
+    let above = fault_if(is_above(front, object), Part::Oil, line, Code::O14);
+    merge(doubled, merge(lacking, merge(strange, above)))
 }

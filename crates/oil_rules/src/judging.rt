@@ -1,47 +1,33 @@
 //! The least fault of a tree. The faults of an attribute of a task that rest on other tasks and on events.
-//! The task that a block of an alarm names.
-ghost use Rattle.std.specs.Prelude.{◌≡◌, IfOk, codes, true, ◌&&◌, ◌||◌, not};
+//! The task that a block of an alarm names. The faults of an attribute by the attribute table.
+ghost use Rattle.std.specs.Prelude.{◌≡◌, IfOk, codes, true, ◌&&◌, ◌||◌, not, is_none};
 ghost use Rattle.sloth_base.specs.Search.{IsSearchResult, Somewhere};
 ghost use Rattle.oil_table.specs.Objects.{has_scheduler, names_of, is_use, is_used, number_of, object_named};
 ghost use Rattle.oil_table.specs.Events.{events_of};
 ghost use Rattle.oil_rules.specs.ObjectFaults.{is_known};
-ghost use Rattle.oil_rules.specs.TreeFaults.{TaskFaults, KnownObjectFault, ObjectFault, TreeFault};
+ghost use Rattle.oil_rules.specs.TreeFaults.{TaskFaults, KnownObjectFault, ObjectFault};
 ghost use Rattle.oil_rules.specs.ModelFaults.{ModelFault};
 ghost use Rattle.oil_rules.specs.TaskFaults.{is_taken, TaskFault};
 ghost use Rattle.oil_rules.specs.Blocks.{first_in};
 ghost use Rattle.oil_rules.specs.AlarmFaults.{leaves_out, is_left_out};
+ghost use Rattle.oil_rules.specs.AttributeFaults.{opened_place, place_by, refers_to_none, is_refused, RowFault, AttributeFault};
 
-use crate::alarms::faults_of_alarms;
-use crate::attribute_faults::attribute_faults;
-use crate::object_faults::{kind_fault, known_fault};
+use crate::blocks::faults_of_alarms;
+use crate::front::{kind_fault, known_fault};
 use crate::{Front, References, first_in};
 use oil_parse::{OilAttr, OilObject, OilTree, OilValue};
 use oil_table::{
-    EventTable, TaskEvents, events_without_bit, is_nowhere, is_of_kind, is_use, number_of, place_of,
+    Attribute, EarlierUses, EventTable, Place, TaskEvents, allows, attribute_of, block_place,
+    events_without_bit, is_nowhere, is_of_kind, is_second, is_use, number_of, place_of,
 };
-use sloth_base::least_fault::{fault_if, merge};
+use sloth_base::refusal::{fault_if, merge};
 use sloth_base::{Code, EventDecl, Part, Refusal, Result};
 use std::alloc::Global;
 use std::marker::Model;
-use text_pieces::Names;
+use text_pieces::{Names, same};
 
 /// The least refusal that was found, or none.
 pub type Verdict = Result<Option<Refusal>>;
-
-fn faults_of_task<'t>(
-    alloc: Global,
-    events: &'t EventTable<'t>,
-    front: &Front,
-    object: &'t OilObject,
-) -> Verdict
-    ensures { IfOk result (IsSearchResult (TaskFaults events.now front.now object.now)) }
-{
-    if !is_of_kind(object, b"TASK") {
-        return Ok(None);
-    }
-    let found = task_faults(alloc, events, front, object.attrs.items())?;
-    Ok(found)
-}
 
 fn fault_of_known(
     alloc: Global,
@@ -60,7 +46,7 @@ fn fault_of_known(
     }
     let known = known_fault(scheduler, front, object);
     let attributes = attribute_faults(alloc, table, scheduler, place, object.attrs.items())?;
-    let of_task = faults_of_task(alloc, events, front, object)?;
+    let of_task = task_faults(alloc, events, front, object)?;
     Ok(merge(known, merge(attributes, of_task)))
 }
 
@@ -83,25 +69,6 @@ fn object_faults(
     Ok(least)
 }
 
-// The least fault of a tree with these objects and events, the blocks of alarms aside.
-fn faults_among(
-    alloc: Global,
-    tree: &OilTree,
-    table: &Front,
-    scheduler: bool,
-    events: &EventTable,
-) -> Verdict
-    requires objects { table.now ≡ tree.now.objects }
-    requires scheduler { scheduler ≡ has_scheduler tree.now.objects }
-    requires events { events.now ≡ events_of tree.now.objects }
-    ensures { IfOk result (IsSearchResult (TreeFault tree.now)) }
-{
-    let objects = tree.objects.items();
-    let of_objects = object_faults(alloc, objects, table, scheduler, events)?;
-    let without_os = fault_if(!table.has_os(), Part::Oil, tree.cpu_line, Code::O11);
-    Ok(merge(of_objects, merge(events_without_bit(objects), without_os)))
-}
-
 /// The least fault of a tree with these events, O7 to O15.
 pub fn judge(
     alloc: Global,
@@ -118,7 +85,9 @@ pub fn judge(
     let objects = tree.objects.items();
     let events = EventTable::new(events, event_names);
     let table = Front::of(alloc, objects)?;
-    let of_tree = faults_among(alloc, tree, &table, scheduler, &events)?;
+    let of_objects = object_faults(alloc, objects, &table, scheduler, &events)?;
+    let without_os = fault_if(!table.has_os(), Part::Oil, tree.cpu_line, Code::O11);
+    let of_tree = merge(of_objects, merge(events_without_bit(objects), without_os));
     let of_alarms = faults_of_alarms(alloc, objects)?;
     Ok(merge(of_tree, of_alarms))
 }
@@ -157,15 +126,19 @@ fn task_fault(front: &Front, given: bool, before: &References, attr: &OilAttr) -
     merge(repeated, shared)
 }
 
-/// O13 and O15 of the attributes of a task.
-pub fn task_faults<'t>(
+// O13 and O15 of the attributes of a task.
+fn task_faults<'t>(
     alloc: Global,
     events: &'t EventTable<'t>,
     front: &Front,
-    attrs: &'t [OilAttr],
+    object: &'t OilObject,
 ) -> Verdict
-    ensures { IfOk result (IsSearchResult (Somewhere (TaskFault events.now front.now) attrs.now)) }
+    ensures { IfOk result (IsSearchResult (TaskFaults events.now front.now object.now)) }
 {
+    if !is_of_kind(object, b"TASK") {
+        return Ok(None);
+    }
+    let attrs = object.attrs.items();
     let mut before = References::new(alloc, events);
     let mut given = false;
     let mut least = None;
@@ -234,4 +207,109 @@ impl<'t> NamedTask<'t> {
             _ => false,
         }
     }
+}
+
+/// The place of the block behind an attribute of the own block; else as before.
+pub fn opened(place: Place, inner: Place, attr: &OilAttr) -> Place
+    ensures { result ≡ opened_place place inner attr.now }
+{
+    if attr.depth == 0 {
+        block_place(place, attr)
+    } else {
+        inner
+    }
+}
+
+/// The place in which an attribute stands, by its depth.
+pub fn place_by(place: Place, inner: Place, attr: &OilAttr) -> Place
+    ensures { result ≡ place_by place inner attr.now }
+{
+    match attr.depth {
+        0 => place,
+        1 => inner,
+        _ => Place::Nowhere,
+    }
+}
+
+/// O8: the table has no row of this attribute.
+pub fn is_unlisted(row: Option<Attribute>) -> bool
+    ensures { result ≡ is_none row }
+{
+    row.is_none()
+}
+
+/// O10: the value is a word that names no object of the kind.
+pub fn refers_to_none(
+    objects: &Front,
+    scheduler: bool,
+    row: Option<Attribute>,
+    value: &OilValue,
+) -> bool
+    ensures { result ≡ refers_to_none objects.now scheduler row value.now }
+{
+    let Some(attribute) = row else {
+        return false;
+    };
+    let OilValue::Word(word) = value else {
+        return false;
+    };
+    let word = word.bytes();
+    match attribute {
+        Attribute::Mode => !same(word, b"OSDEFAULTAPPMODE"),
+        Attribute::Resource => {
+            !(scheduler && same(word, b"RES_SCHEDULER")) && !objects.has(b"RESOURCE", word)
+        }
+        Attribute::Event | Attribute::ActionEvent => !objects.has(b"EVENT", word),
+        Attribute::ActionTask => !objects.has(b"TASK", word),
+        Attribute::Counter => !objects.has(b"COUNTER", word),
+        _ => false,
+    }
+}
+
+/// O12: the value is none that the row allows.
+pub fn is_refused(row: Option<Attribute>, value: &OilValue) -> bool
+    ensures { result ≡ is_refused row value.now }
+{
+    row.is_some_and(|attribute| !allows(attribute, value))
+}
+
+fn row_fault(
+    objects: &Front,
+    scheduler: bool,
+    row: Option<Attribute>,
+    before: &EarlierUses,
+    attr: &OilAttr,
+) -> Option<Refusal>
+    requires { before.now.depth ≡ 0 }
+    ensures { IsSearchResult (RowFault objects.now scheduler row before.now.attrs attr.now) result }
+{
+    let line = attr.line;
+    let unknown = fault_if(is_unlisted(row), Part::Oil, line, Code::O8);
+    let second = fault_if(is_second(row, before, attr), Part::Oil, line, Code::O9);
+    let missing = refers_to_none(objects, scheduler, row, &attr.value);
+    let missing = fault_if(missing, Part::Oil, line, Code::O10);
+    let refused = fault_if(is_refused(row, &attr.value), Part::Oil, line, Code::O12);
+    merge(unknown, merge(second, merge(missing, refused)))
+}
+
+/// O8, O9, O10 and O12 of the attributes of an object.
+pub fn attribute_faults(
+    alloc: Global,
+    objects: &Front,
+    scheduler: bool,
+    place: Place,
+    attrs: &[OilAttr],
+) -> Verdict
+    ensures { IfOk result (IsSearchResult (Somewhere (AttributeFault objects.now scheduler place) attrs.now)) }
+{
+    let mut before = EarlierUses::new(alloc, 0);
+    let mut inner = Place::Nowhere;
+    let mut least = None;
+    for (number, attr) in attrs.iter().enumerate() {
+        let row = attribute_of(place_by(place, inner, attr), attr.name.bytes());
+        least = merge(least, row_fault(objects, scheduler, row, &before, attr));
+        inner = opened(place, inner, attr);
+        before = before.with(&attrs[..=number], attr)?;
+    }
+    Ok(least)
 }

@@ -3,21 +3,17 @@
 //! finds (`specs/ModelFaults`). What is kept of earlier objects and attributes: `specs/Fronts`, `specs/KeptReferences`.
 #![tactic(auto)]
 
-mod alarms;
-pub mod attribute_faults;
 pub mod blocks;
-mod clocks;
-mod config;
-mod front;
+pub mod front;
 pub mod judging;
-pub mod object_faults;
 pub mod references;
 mod resolving;
 
-pub use attribute_faults::{is_refused, opened, place_by, refers_to_none};
 pub use blocks::{Block, blocks_of, first_block, first_in, is_used_in, lacks_part, number_in};
-pub use front::Front;
-pub use judging::{NamedTask, Verdict, is_given_with, judge, repeats_priority};
-pub use object_faults::{is_above, is_doubled, is_strange_mode, lacks_attribute};
+pub use front::{Front, is_above, is_doubled, is_strange_mode, lacks_attribute};
+pub use judging::{
+    NamedTask, Verdict, is_given_with, is_refused, judge, opened, place_by, refers_to_none,
+    repeats_priority,
+};
 pub use references::References;
 pub use resolving::{one_config, resolve};

@@ -50,13 +50,9 @@ impl<'t> Model for CounterLimits<'t> {
 fn limit_or(number: Option<u32>, other: u32) -> u32
     ensures { result ≡ limit_by number other }
 {
-    let Some(number) = number else {
-        return other;
-    };
-    if 1 <= number && number <= TICK_LIMIT {
-        number
-    } else {
-        other
+    match number {
+        Some(number) if 1 <= number && number <= TICK_LIMIT => number,
+        _ => other,
     }
 }
 
@@ -75,10 +71,9 @@ fn limits_among(alloc: Global, objects: &[OilObject]) -> Result<Vec<Limits>>
 {
     let mut limits = Vec::new(alloc);
     for object in objects {
-        if !is_of_kind(object, b"COUNTER") {
-            continue;
+        if is_of_kind(object, b"COUNTER") {
+            push(&mut limits, declared_limits(object))?;
         }
-        push(&mut limits, declared_limits(object))?;
     }
     Ok(limits)
 }
@@ -88,12 +83,10 @@ impl<'t> CounterLimits<'t> {
     pub fn of(alloc: Global, objects: &'t [OilObject]) -> Result<CounterLimits<'t>>
         ensures { IfOk result (λ counters. counters ≡ objects.now) }
     {
-        let names = names_of(alloc, objects, b"COUNTER")?;
-        let limits = limits_among(alloc, objects)?;
         Ok(CounterLimits {
             objects,
-            names,
-            limits,
+            names: names_of(alloc, objects, b"COUNTER")?,
+            limits: limits_among(alloc, objects)?,
         })
     }
 

@@ -2,12 +2,12 @@
 //! and was given to no earlier AUTO event (OIL 2.5, section 3.2.6).
 ghost use Rattle.std.specs.Prelude.{◌≡◌, ◌<◌, All, IfOk};
 ghost use Rattle.sloth_base.specs.Search.{IsSearchResult, Somewhere};
-ghost use Rattle.oil_table.specs.Events.{is_event, number_bits, number_masks, free_bit, is_auto, mask_by, taken_more};
+ghost use Rattle.oil_table.specs.Events.{number_bits, number_masks, free_bit, is_auto, mask_by, taken_more};
 ghost use Rattle.oil_table.specs.Events.{number_mask, lacks_bit, BitFault, events_of};
 
 use crate::{first_is, first_number, is_of_kind, is_used};
 use oil_parse::OilObject;
-use sloth_base::least_fault::{fault_if, merge};
+use sloth_base::refusal::{fault_if, merge};
 use sloth_base::{Code, EventDecl, Name, Part, Refusal, Result};
 use std::alloc::Global;
 use text_pieces::push;
@@ -18,12 +18,6 @@ const BITS: [u32; 32] = [
     0x8000, 0x10000, 0x20000, 0x40000, 0x80000, 0x100000, 0x200000, 0x400000, 0x800000, 0x1000000,
     0x2000000, 0x4000000, 0x8000000, 0x10000000, 0x20000000, 0x40000000, 0x80000000,
 ];
-
-fn is_event(object: &OilObject) -> bool
-    ensures { result ≡ is_event object.now }
-{
-    is_of_kind(object, b"EVENT")
-}
 
 /// Whether the first MASK is AUTO, or there is none.
 fn is_auto(event: &OilObject) -> bool
@@ -43,7 +37,7 @@ fn number_mask(event: &OilObject) -> u32
 fn number_bits(object: &OilObject) -> u32
     ensures { result ≡ number_bits object.now }
 {
-    if is_event(object) {
+    if is_of_kind(object, b"EVENT") {
         number_mask(object)
     } else {
         0
@@ -83,7 +77,7 @@ fn given_mask(taken: u32, event: &OilObject) -> u32
 pub fn taken_more(taken: u32, object: &OilObject) -> u32
     ensures { result ≡ taken_more taken object.now }
 {
-    if is_event(object) {
+    if is_of_kind(object, b"EVENT") {
         taken | given_mask(taken, object)
     } else {
         taken
@@ -94,7 +88,7 @@ pub fn taken_more(taken: u32, object: &OilObject) -> u32
 pub fn lacks_bit(taken: u32, object: &OilObject) -> bool
     ensures { result ≡ lacks_bit taken object.now }
 {
-    is_event(object) && is_auto(object) && free_bit(taken).is_none()
+    is_of_kind(object, b"EVENT") && is_auto(object) && free_bit(taken).is_none()
 }
 
 /// O15: an AUTO event finds no free bit.
@@ -119,7 +113,7 @@ pub fn events_of(alloc: Global, objects: &[OilObject]) -> Result<Vec<EventDecl>>
     let mut taken = number_masks(objects);
     let mut events = Vec::new(alloc);
     for object in objects {
-        if !is_event(object) {
+        if !is_of_kind(object, b"EVENT") {
             continue;
         }
         let mask = given_mask(taken, object);

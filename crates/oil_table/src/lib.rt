@@ -5,24 +5,21 @@
 #![tactic(auto)]
 
 pub mod counter_limits;
-pub mod event_table;
 pub mod events;
 pub mod object_limits;
-pub mod objects;
 pub mod table;
 pub mod task_events;
 pub mod uses;
 
 pub use counter_limits::{CounterLimits, Limits, is_beyond};
-pub use event_table::{EventTable, event_mask, mask_of_value};
 pub use events::{events_of, events_without_bit, lacks_bit, number_masks, taken_more};
 pub use object_limits::{comes_behind, is_clock_more};
-pub use objects::{
-    declares, first_is, first_number, first_use, has_scheduler, is_of_kind, is_use, is_used,
-    names_of, number_of,
-};
 pub use table::{
     Attribute, Place, allows, attribute_of, block_place, is_nowhere, is_single, is_word, place_of,
 };
 pub use task_events::{TaskEvents, event_word};
-pub use uses::{EarlierUses, insert, is_second};
+pub use uses::{
+    EarlierUses, EventTable, declares, event_mask, first_is, first_number, first_use,
+    has_scheduler, insert, is_of_kind, is_second, is_use, is_used, mask_of_value, names_of,
+    number_of,
+};

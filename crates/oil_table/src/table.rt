@@ -1,9 +1,7 @@
 //! The attribute table: which attributes may stand where, and which values they take (OIL 2.5, section 3).
 ghost use Rattle.std.specs.Prelude.{◌≡◌, ◌&&◌, bytes_eq};
-ghost use Rattle.oil_table.specs.Table.{place_of, os_attribute, task_attribute};
-ghost use Rattle.oil_table.specs.Table.{counter_attribute, alarm_attribute};
-ghost use Rattle.oil_table.specs.Table.{setting_attribute, wakeup_attribute, only_attribute, attribute_of, is_single};
-ghost use Rattle.oil_table.specs.Table.{allows_word, allows_number, is_allowed, is_word, block_place, is_nowhere};
+ghost use Rattle.oil_table.specs.Table.{place_of, attribute_of, is_single, allows_word, allows_number, is_allowed, is_word};
+ghost use Rattle.oil_table.specs.Table.{block_place, is_nowhere};
 
 use oil_parse::{OilAttr, OilValue};
 use sloth_base::{PRIORITY_LIMIT, TICK_LIMIT};
@@ -72,6 +70,13 @@ macro_rules! named {
     }};
 }
 
+// The row of the first attribute with this name, if there is one.
+macro_rules! row {
+    ($word:expr; $($name:literal => $row:ident),+) => {
+        named!($word; $($name => Some(Attribute::$row)),+; None)
+    };
+}
+
 /// The place that an object of this kind is; nowhere, where there is no such kind.
 pub fn place_of(kind: &[u8]) -> Place
     ensures { result ≡ place_of kind.now }
@@ -81,77 +86,29 @@ pub fn place_of(kind: &[u8]) -> Place
         b"ALARM" => Place::Alarm; Place::Nowhere)
 }
 
-fn os_attribute(name: &[u8]) -> Option<Attribute>
-    ensures { result ≡ os_attribute name.now }
-{
-    named!(name; b"STATUS" => Some(Attribute::Status), b"STARTUPHOOK" => Some(Attribute::Hook),
-        b"ERRORHOOK" => Some(Attribute::Hook), b"SHUTDOWNHOOK" => Some(Attribute::Hook),
-        b"PRETASKHOOK" => Some(Attribute::Hook), b"POSTTASKHOOK" => Some(Attribute::Hook),
-        b"USEGETSERVICEID" => Some(Attribute::Flag), b"USEPARAMETERACCESS" => Some(Attribute::Flag),
-        b"USERESSCHEDULER" => Some(Attribute::Flag); None)
-}
-
-fn task_attribute(name: &[u8]) -> Option<Attribute>
-    ensures { result ≡ task_attribute name.now }
-{
-    named!(name; b"PRIORITY" => Some(Attribute::Priority), b"SCHEDULE" => Some(Attribute::Schedule),
-        b"ACTIVATION" => Some(Attribute::Activation), b"AUTOSTART" => Some(Attribute::Autostart),
-        b"RESOURCE" => Some(Attribute::Resource), b"EVENT" => Some(Attribute::Event); None)
-}
-
-fn counter_attribute(name: &[u8]) -> Option<Attribute>
-    ensures { result ≡ counter_attribute name.now }
-{
-    named!(name; b"MAXALLOWEDVALUE" => Some(Attribute::Limit), b"TICKSPERBASE" => Some(Attribute::Ticks),
-        b"MINCYCLE" => Some(Attribute::Limit); None)
-}
-
-fn alarm_attribute(name: &[u8]) -> Option<Attribute>
-    ensures { result ≡ alarm_attribute name.now }
-{
-    named!(name; b"COUNTER" => Some(Attribute::Counter), b"ACTION" => Some(Attribute::Action),
-        b"AUTOSTART" => Some(Attribute::Autostart); None)
-}
-
-fn setting_attribute(name: &[u8]) -> Option<Attribute>
-    ensures { result ≡ setting_attribute name.now }
-{
-    named!(name; b"TASK" => Some(Attribute::ActionTask), b"EVENT" => Some(Attribute::ActionEvent); None)
-}
-
-fn wakeup_attribute(name: &[u8]) -> Option<Attribute>
-    ensures { result ≡ wakeup_attribute name.now }
-{
-    named!(name; b"ALARMTIME" => Some(Attribute::Time), b"CYCLETIME" => Some(Attribute::Cycle),
-        b"APPMODE" => Some(Attribute::Mode); None)
-}
-
-fn only(name: &[u8], word: &[u8], attribute: Attribute) -> Option<Attribute>
-    ensures { result ≡ only_attribute name.now word.now attribute }
-{
-    if same(name, word) {
-        Some(attribute)
-    } else {
-        None
-    }
-}
-
 /// The row of the table for an attribute of this name at this place.
 pub fn attribute_of(place: Place, name: &[u8]) -> Option<Attribute>
     ensures { result ≡ attribute_of place name.now }
 {
     match place {
-        Place::Os => os_attribute(name),
-        Place::AppMode => only(name, b"VALUE", Attribute::Value),
-        Place::Task => task_attribute(name),
-        Place::Activation => only(name, b"APPMODE", Attribute::Mode),
-        Place::Resource => only(name, b"RESOURCEPROPERTY", Attribute::Property),
-        Place::Event => only(name, b"MASK", Attribute::Mask),
-        Place::Counter => counter_attribute(name),
-        Place::Alarm => alarm_attribute(name),
-        Place::Activating => only(name, b"TASK", Attribute::ActionTask),
-        Place::Setting => setting_attribute(name),
-        Place::Wakeup => wakeup_attribute(name),
+        Place::Os => row!(name; b"STATUS" => Status, b"STARTUPHOOK" => Hook, b"ERRORHOOK" => Hook,
+            b"SHUTDOWNHOOK" => Hook, b"PRETASKHOOK" => Hook, b"POSTTASKHOOK" => Hook,
+            b"USEGETSERVICEID" => Flag, b"USEPARAMETERACCESS" => Flag, b"USERESSCHEDULER" => Flag),
+        Place::AppMode => row!(name; b"VALUE" => Value),
+        Place::Task => row!(name; b"PRIORITY" => Priority, b"SCHEDULE" => Schedule,
+            b"ACTIVATION" => Activation, b"AUTOSTART" => Autostart, b"RESOURCE" => Resource,
+            b"EVENT" => Event),
+        Place::Activation => row!(name; b"APPMODE" => Mode),
+        Place::Resource => row!(name; b"RESOURCEPROPERTY" => Property),
+        Place::Event => row!(name; b"MASK" => Mask),
+        Place::Counter => row!(name; b"MAXALLOWEDVALUE" => Limit, b"TICKSPERBASE" => Ticks,
+            b"MINCYCLE" => Limit),
+        Place::Alarm => row!(name; b"COUNTER" => Counter, b"ACTION" => Action,
+            b"AUTOSTART" => Autostart),
+        Place::Activating => row!(name; b"TASK" => ActionTask),
+        Place::Setting => row!(name; b"TASK" => ActionTask, b"EVENT" => ActionEvent),
+        Place::Wakeup => row!(name; b"ALARMTIME" => Time, b"CYCLETIME" => Cycle,
+            b"APPMODE" => Mode),
         Place::Nowhere => None,
     }
 }
@@ -177,12 +134,8 @@ fn allows_word(attribute: Attribute, word: &[u8]) -> bool
         Attribute::Schedule => same(word, b"NON") || same(word, b"FULL"),
         Attribute::Property => same(word, b"STANDARD"),
         Attribute::Action => same(word, b"ACTIVATETASK") || same(word, b"SETEVENT"),
-        Attribute::Mode
-        | Attribute::Resource
-        | Attribute::Event
-        | Attribute::Counter
-        | Attribute::ActionTask
-        | Attribute::ActionEvent => true,
+        Attribute::Mode | Attribute::Resource | Attribute::Event | Attribute::Counter => true,
+        Attribute::ActionTask | Attribute::ActionEvent => true,
         _ => false,
     }
 }
@@ -215,10 +168,7 @@ pub fn allows(attribute: Attribute, value: &OilValue) -> bool
 pub fn is_word(value: &OilValue, word: &[u8]) -> bool
     ensures { result ≡ is_word value.now word.now }
 {
-    match value {
-        OilValue::Word(given) => same(given.bytes(), word),
-        _ => false,
-    }
+    matches!(value, OilValue::Word(given) if same(given.bytes(), word))
 }
 
 /// The place that the block of an attribute of an object is.

@@ -76,16 +76,6 @@ fn add_events<'t>(listed: &mut Listed<'t>, task: usize, attrs: &'t [OilAttr]) ->
 }
 
 impl<'t> TaskEvents<'t> {
-    fn new(alloc: Global) -> TaskEvents<'t>
-        ensures { result ≡ [] }
-    {
-        TaskEvents {
-            objects: &[],
-            names: Names::new(alloc),
-            listed: IndexSet::new(alloc),
-        }
-    }
-
     fn with(self, objects: &'t [OilObject], object: &'t OilObject) -> Result<TaskEvents<'t>>
         requires { objects.now ≡ self ++ object.now ∷ [] }
         ensures { IfOk result (λ tasks. tasks ≡ objects.now) }
@@ -115,7 +105,11 @@ impl<'t> TaskEvents<'t> {
     pub fn of(alloc: Global, objects: &'t [OilObject]) -> Result<TaskEvents<'t>>
         ensures { IfOk result (λ tasks. tasks ≡ objects.now) }
     {
-        let mut tasks = TaskEvents::new(alloc);
+        let mut tasks = TaskEvents {
+            objects: &[],
+            names: Names::new(alloc),
+            listed: IndexSet::new(alloc),
+        };
         for (number, object) in objects.iter().enumerate() {
             tasks = tasks.with(&objects[..=number], object)?;
         }
@@ -126,10 +120,7 @@ impl<'t> TaskEvents<'t> {
     pub fn number_named(&self, attr: Option<&OilAttr>) -> Option<usize>
         ensures { result ≡ task_of self.now (option_copied attr.entry) }
     {
-        let Some(attr) = attr else {
-            return None;
-        };
-        match &attr.value {
+        match &attr?.value {
             OilValue::Word(word) => self.names.number(word.bytes()),
             _ => None,
         }

@@ -2,7 +2,7 @@
 use Rattle.std.proofs.Common.{◌≡◌, ◌∙◌, ℕ, ◌+◌, List, [], ◌∷◌, ◌++◌, drop, get_or, map, refl, ap, sym, subst}
 use Rattle.sloth_base.specs.declared.app.App.{App}
 use Rattle.sloth_base.specs.declared.config.Config.{Config}
-use Rattle.sloth_base.specs.declared.places.Bounds.{Bounds}
+use Rattle.sloth_base.specs.declared.limits.Bounds.{Bounds}
 use Rattle.sloth_region.specs.declared.region.Extent.{Extent}
 use Rattle.sloth_region.specs.declared.region.Map.{Map}
 use Rattle.std.specs.List.{flat_map}

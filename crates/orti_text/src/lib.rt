@@ -5,9 +5,7 @@
 pub mod attributes;
 mod formulas;
 pub mod laws;
-mod names;
 pub mod tables;
-mod values;
 
 pub use attributes::{Attribute, Kind};
 use sloth_base::Result;

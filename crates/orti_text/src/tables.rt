@@ -13,9 +13,11 @@ ghost use Rattle.orti_text.specs.Attributes.{meaning, attributes, object_names};
 ghost use Rattle.orti_text.specs.InReach.{IsInReach};
 
 use crate::attributes::Kind::{Alarm, Os, Resource, Stack, Task};
-use crate::attributes::{attribute_name, attribute_words, attributes, kind_words};
-use crate::names::{object_names, running_names, state_names, two_names};
-use crate::values::{attribute_value, between};
+use crate::attributes::{
+    attribute_name, attribute_words, attributes, kind_words, object_names, running_names,
+    state_names, two_names,
+};
+use crate::formulas::{attribute_value, between};
 use crate::{Attribute, Kind, Put, Text};
 use mem_map::plan;
 use sloth_base::{App, Bounds, BuildError, Config, Name, Result};

@@ -1,8 +1,7 @@
 -- Each event leads from a sound state to a sound one.
-use Rattle.std.proofs.Common.{◌≡◌, ◌∙◌, ℕ, ◌∷◌, Some, None, refl, sym, subst}
+use Rattle.std.proofs.Common.{◌≡◌, ◌∙◌, ℕ, ◌∷◌, Option, Some, None, refl, sym, ap, subst}
 use Rattle.std.specs.Prelude.{Result, Ok, Err, OnOk, OnErr}
 use Rattle.std.proofs.lemmas.Option.{none-some}
-use Rattle.std.proofs.lemmas.Result.{on_ok_weaker, on_err_weaker}
 use Rattle.sloth_base.specs.declared.config.Config.{Config}
 use Rattle.sloth_base.specs.declared.app.App.{App}
 use Rattle.sloth_base.specs.declared.service.Event.{Event}
@@ -19,7 +18,7 @@ use Rattle.osek_scheduler.proofs.ApartSteps.{step_apart}
 use Rattle.osek_scheduler.proofs.Facts.{facts}
 use Rattle.osek_scheduler.proofs.Steps.{step_valid}
 use Rattle.osek_blocking.specs.NextEvents.{IsNoAdmission}
-use Rattle.osek_machine.specs.Steps.{IsSound, Machine}
+use Rattle.osek_machine.specs.Steps.{Advances, IsSound, Machine}
 use Rattle.osek_blocking.proofs.Only.{settles}
 use Rattle.osek_machine.proofs.Rooms.{not_among}
 
@@ -48,21 +47,31 @@ module _ (config : Config) (app : App) (s : System) (sound : IsSound config app 
   }
 
   -- the state is sound behind an event, and behind one that changes nothing
-  pub sound-after : {A E : Type 0} (e : Event) (next : System) (r : Result A E) → OnOk r (next_state config app e s ≡ Some next) → OnErr r (next ≡ s)
-      → IsSound config app next
-  sound-after e next (Ok x) h same = step-sound e next (step_of config app s next e h)
-  sound-after e next (Err x) h same = subst (IsSound config app) (sym same) sound
+  pub sound-after : {A E : Type 0} (e : Event) (next : System) (r : Result A E) → Advances (next_state config app e s) s next r → IsSound config app next
+  sound-after e next (Ok x) h = step-sound e next (step_of config app s next e h)
+  sound-after e next (Err x) h = subst (IsSound config app) (sym h.1) sound
+
+-- what two states lead to alike
+pub alike : {A E : Type 0} {m n : Option System} (old new : System) (r : Result A E) → m ≡ n → Advances n old new r → Advances m old new r
+alike old new (Ok x) e h = e ∙ h
+alike old new (Err x) e h = (e ∙ h.0, h.1)
 
 module _ (inside now : Machine) (view : inside ≡ now) (e : Event) where
   abbrev Steps : System → Machine → Type 0
   Steps next m = OsekStep m.config m.app e m.system next
 
-  pub steps-ok : {A E : Type 0} (next : System) (r : Result A E) → OnOk r (next_state inside.config inside.app e inside.system ≡ Some next)
-      → OnOk r (OsekStep now.config now.app e now.system next)
-  steps-ok next r = on_ok_weaker r (λ h. subst (Steps next) view (step_of inside.config inside.app inside.system next e h))
+  abbrev Goes : {A E : Type 0} → System → Result A E → Type 0
+  Goes next r = Advances (next_state inside.config inside.app e inside.system) inside.system next r
 
-  pub steps-err : {A E : Type 0} (r : Result A E) → OnErr r (next_state inside.config inside.app e inside.system ≡ None)
-      → OnErr r ((next : System) → OsekStep now.config now.app e now.system next → ⊥)
-  steps-err r =
-      on_err_weaker r (λ h next step.
-      none-some next (sym h ∙ step_is inside.config inside.app inside.system next e (subst (Steps next) (sym view) step)))
+  pub steps-ok : {A E : Type 0} (next : System) (r : Result A E) → Goes next r → OnOk r (OsekStep now.config now.app e now.system next)
+  steps-ok next (Ok x) h = subst (Steps next) view (step_of inside.config inside.app inside.system next e h)
+  steps-ok next (Err x) h = tt
+
+  pub steps-err : {A E : Type 0} (next : System) (r : Result A E) → Goes next r → OnErr r ((other : System) → OsekStep now.config now.app e now.system other → ⊥)
+  steps-err next (Ok x) h = tt
+  steps-err next (Err x) h = λ other step.
+      none-some other (sym h.0 ∙ step_is inside.config inside.app inside.system other e (subst (Steps other) (sym view) step))
+
+  pub steps-same : {A E : Type 0} (next : System) (r : Result A E) → Goes next r → OnErr r ((record inside { system = next }) ≡ now)
+  steps-same next (Ok x) h = tt
+  steps-same next (Err x) h = ap (λ (s : System). record inside { system = s }) h.1 ∙ view

@@ -1,4 +1,5 @@
 -- The states of the abstract scheduler as a program.
+use Rattle.std.specs.Prelude.{◌≡◌, Option, Some, None, Result, Ok, Err}
 use Rattle.sloth_base.specs.declared.config.Config.{Config}
 use Rattle.sloth_base.specs.declared.app.App.{App}
 use Rattle.code_rules.specs.WellFormed.{WellFormed}
@@ -18,3 +19,8 @@ pub record IsSound (config : Config) (app : App) (s : System) : Type 0 where
   pub valid : IsValid config app s
   pub apart : TasksAreApart config s
   pub distinct : AreDistinct s.fresh
+
+-- an event leads to its next state; where it has none, it changes nothing
+abbrev pub Advances : {A E : Type 0} → Option System → (old new : System) → Result A E → Type 0
+Advances next old new (Ok _) = next ≡ Some new
+Advances next old new (Err _) = (next ≡ None) × (new ≡ old)

@@ -9,7 +9,7 @@ ghost use Rattle.osek_machine.specs.PlanSteps.{IsRead, answer_plan, leave_plan};
 
 use crate::priority::{is_ready, is_top};
 use crate::room::TaskRoom;
-use crate::services::leaves;
+use crate::services::plan;
 use crate::{Store, call_in, call_plan, is_active, own_operation, run_plan};
 use osek_scheduler::{Other, Plan, TaskChange};
 use sloth_base::{App, Config, Func, Service};
@@ -17,10 +17,7 @@ use sloth_base::{App, Config, Func, Service};
 fn is_body(func: &Func, t: u32) -> bool
     ensures { result ≡ is_number t func.now.task }
 {
-    match func.task {
-        Some(task) => task.0 == t,
-        None => false,
-    }
+    matches!(func.task, Some(task) if task.0 == t)
 }
 
 // The number of a task's body, or the number of functions.
@@ -58,26 +55,19 @@ pub fn entry_plan(config: &Config, app: &App, store: &Store, t: u32) -> Option<P
     } else {
         TaskChange::Resume(non)
     };
-    Some(leaves(change, Other::Nothing))
+    Some(plan(None, change, Other::Nothing))
 }
 
 fn is_position(task: &TaskRoom, func: u32, item: u32) -> bool
     ensures { result ≡ is_position func item task.now.frames }
 {
-    match task.innermost() {
-        Some(frame) => frame.func() == func && frame.item() == item,
-        None => false,
-    }
+    matches!(task.innermost(), Some(frame) if frame.func() == func && frame.item() == item)
 }
 
-// Whether a plan shows a result or a status.
 fn shows(plan: &Plan, answer: u32) -> bool
     ensures { result ≡ is_number answer plan.now.answer }
 {
-    match plan.answer {
-        Some(shown) => shown == answer,
-        None => false,
-    }
+    matches!(plan.answer, Some(shown) if shown == answer)
 }
 
 /// The plan of a run of an item.
@@ -141,17 +131,11 @@ pub fn answer_plan(
 }
 
 /// The plan of a service by which its caller leaves.
-pub fn leave_plan(
-    config: &Config,
-    app: &App,
-    store: &Store,
-    t: u32,
-    served: Service,
-) -> Option<Plan>
+pub fn leave_plan(config: &Config, app: &App, store: &Store, t: u32, kind: Service) -> Option<Plan>
     requires { IsRead config.now app.now store.now }
-    ensures { result ≡ leave_plan config.now app.now t served store.now }
+    ensures { result ≡ leave_plan config.now app.now t kind store.now }
 {
-    let plan = serving_plan(config, app, store, t, served)?;
+    let plan = serving_plan(config, app, store, t, kind)?;
     if plan.answer.is_some() {
         return None;
     }
@@ -172,5 +156,5 @@ pub fn back_plan(config: &Config, store: &Store, t: u32) -> Option<Plan>
         return None;
     }
     let non = config.tasks.items()[t as usize].non;
-    Some(leaves(TaskChange::ComeBack(non), Other::Nothing))
+    Some(plan(None, TaskChange::ComeBack(non), Other::Nothing))
 }

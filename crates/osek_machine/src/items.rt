@@ -1,19 +1,18 @@
 //! What an item of task code does.
-ghost use Rattle.std.specs.Prelude.{◌≡◌, ◌<◌, length, slice_get, Some};
+ghost use Rattle.std.specs.Prelude.{◌≡◌, ◌<◌, length, Some};
 ghost use Rattle.std.specs.List.{list_all};
-ghost use Rattle.osek_scheduler.specs.Meaning.{is_own, on_some, registers_of};
+ghost use Rattle.osek_scheduler.specs.Meaning.{is_own, registers_of};
 ghost use Rattle.osek_scheduler.specs.Frames.{CanMove};
-ghost use Rattle.osek_scheduler.specs.Outcomes.{plan};
 ghost use Rattle.osek_machine.specs.Plans.{branch_plan, item_plan, load_plan, store_plan, write_plan};
 ghost use Rattle.osek_machine.specs.Running.{IsComputed, own_operation, run_plan};
 
 use crate::room::TaskRoom;
-use crate::services::{answers, with_other};
+use crate::services::{answers, plan};
 use crate::{Store, is_active};
 use osek_scheduler::{
     FrameRoom, Other, Plan, TaskChange, branch_holds, number_result, register_result,
 };
-use sloth_base::{App, Func, Op, Reg, Width};
+use sloth_base::{App, Func, FuncId, Op, Reg, Width};
 
 fn write_plan(rd: Reg, value: u32) -> Plan
     ensures { result ≡ write_plan rd value }
@@ -41,7 +40,7 @@ fn store_plan(store: &Store, width: Width, value: u32, symbol: u32, offset: u32)
         offset,
         value,
     };
-    Some(with_other(value, TaskChange::MoveOn, other))
+    Some(plan(Some(value), TaskChange::MoveOn, other))
 }
 
 fn branch_plan(func: &Func, holds: bool, item: u32, label: u32) -> Option<Plan>
@@ -53,15 +52,6 @@ fn branch_plan(func: &Func, holds: bool, item: u32, label: u32) -> Option<Plan>
     Some(answers(0, TaskChange::GoTo(next)))
 }
 
-fn invoke_plan(app: &App, func: u32) -> Option<Plan>
-    ensures { result ≡ on_some (slice_get app.now.funcs func)
-        (λ called. Some (plan (Some 0) (TaskChange.Invoke func called.frame_words) Other.Nothing)) }
-{
-    let words = app.funcs.items().get(func as usize)?.frame_words;
-    Some(answers(0, TaskChange::Invoke { func, words }))
-}
-
-// What an item does, of a function with this innermost frame.
 fn item_plan(
     app: &App,
     store: &Store,
@@ -130,7 +120,10 @@ fn item_plan(
             branch_plan(func, holds, frame.item(), label)
         }
         Op::Jump { label } => branch_plan(func, true, frame.item(), label),
-        Op::Invoke { func } => invoke_plan(app, func.0),
+        Op::Invoke { func: FuncId(func) } => {
+            let words = app.funcs.items().get(func as usize)?.frame_words;
+            Some(answers(0, TaskChange::Invoke { func, words }))
+        }
         Op::Return if task.frames.depth() > 1 => Some(answers(0, TaskChange::Return)),
         Op::Return | Op::Serve(_) => None,
     }
@@ -142,7 +135,6 @@ fn is_own(r: Reg) -> bool
     r.0 == 0 || (5 <= r.0 && r.0 < 30)
 }
 
-// Whether the registers that an item names are those of task code.
 fn names_own(op: &Op) -> bool
     ensures { result ≡ list_all is_own (registers_of op.now) }
 {

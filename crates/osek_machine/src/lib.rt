@@ -1,7 +1,7 @@
 //! The abstract scheduler as a program.
 //!
 //! Of well-formed task code a step leads to the one next state of the event, or, exactly where there is none, changes
-//! nothing; it takes no memory, nor does a tick (`Osek::boot`, `step`, `state`, `ticks::tick`; `specs/Steps`,
+//! nothing; it takes no memory, nor does a tick (`Osek::boot`, `step`, `state`, `store::tick`; `specs/Steps`,
 //! `specs/Ticks`). `Osek::above` gives the due counters and Ready tasks above a task, a bit for each line
 //! (`specs/Above`).
 //!
@@ -17,7 +17,6 @@ pub mod priority;
 pub mod room;
 pub mod services;
 pub mod store;
-pub mod ticks;
 
 pub use events::{answer_plan, back_plan, entry_plan, leave_plan, running_plan};
 pub use items::{own_operation, run_plan};

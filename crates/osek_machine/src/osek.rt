@@ -1,5 +1,5 @@
 //! The abstract scheduler.
-ghost use Rattle.std.specs.Prelude.{◌≡◌, ◌<◌, ℕ, cond, IfOk, IfSome, OnOk, OnErr, Some, None, length};
+ghost use Rattle.std.specs.Prelude.{◌≡◌, ◌<◌, ℕ, cond, IfOk, IfSome, OnOk, OnErr, Some, length};
 ghost use Rattle.std.specs.Int.{bit_at};
 ghost use Rattle.code_rules.specs.WellFormed.{WellFormed};
 ghost use Rattle.osek_scheduler.specs.State.{System, opening, task as task_of};
@@ -13,12 +13,12 @@ ghost use Rattle.osek_machine.specs.Above.{is_line_above};
 ghost use Rattle.osek_machine.specs.Clocked.{IsClocked};
 ghost use Rattle.osek_machine.specs.Plans.{HasPlanRoom};
 ghost use Rattle.osek_machine.specs.PlanSteps.{followed_state};
-ghost use Rattle.osek_machine.specs.Steps.{IsSound, Machine};
+ghost use Rattle.osek_machine.specs.Steps.{Advances, IsSound, Machine};
 
 use crate::priority::lines_above;
 use crate::{
     Store, answer_plan, back_plan, entry_plan, is_idle, is_next_tick, leave_plan, no_ticks,
-    running_plan, ticks,
+    running_plan,
 };
 use osek_scheduler::{Counter, Plan, TaskState};
 use sloth_base::{App, Config, Event, Result, TaskId};
@@ -57,12 +57,9 @@ impl<'t> Model for Osek<'t> {
     ghost invariant = { λ o. IsSound o.config.now o.app.now o.store };
 }
 
-// Carries out a plan of a task, if there is one.
 fn act(t: u32, plan: Option<Plan>, store: &mut Store) -> Result<(), NotARun>
     requires { IfSome plan (λ p. HasPlanRoom t p store.old) }
-    ensures next { OnOk result (followed_state t store.old plan ≡ Some store.new) }
-    ensures none { OnErr result (followed_state t store.old plan ≡ None) }
-    ensures same { OnErr result (store.new ≡ store.old) }
+    ensures { Advances (followed_state t store.old plan) store.old store.new result }
 {
     let Some(plan) = plan else {
         return Err(NotARun);
@@ -74,9 +71,7 @@ fn act(t: u32, plan: Option<Plan>, store: &mut Store) -> Result<(), NotARun>
 
 fn boot(config: &Config, store: &mut Store) -> Result<(), NotARun>
     requires { length config.now.tasks ≡ length store.old.tasks }
-    ensures next { OnOk result ((app : AnyApp) → next_state config.now app event.Boot store.old ≡ Some store.new) }
-    ensures none { OnErr result ((app : AnyApp) → next_state config.now app event.Boot store.old ≡ None) }
-    ensures same { OnErr result (store.new ≡ store.old) }
+    ensures { (app : AnyApp) → Advances (next_state config.now app event.Boot store.old) store.old store.new result }
 {
     if store.booted() {
         return Err(NotARun);
@@ -89,9 +84,7 @@ fn admit(config: &Config, store: &mut Store, t: u32) -> Result<(), NotARun>
     requires count { length store.old.tasks ≡ length config.now.tasks }
     requires room { t < length store.old.tasks → (task_of store.old t).state ≡ mode.Suspended
         → length store.old.fresh < task_limit }
-    ensures next { OnOk result ((app : AnyApp) → next_state config.now app (event.Admit t) store.old ≡ Some store.new) }
-    ensures none { OnErr result ((app : AnyApp) → next_state config.now app (event.Admit t) store.old ≡ None) }
-    ensures same { OnErr result (store.new ≡ store.old) }
+    ensures { (app : AnyApp) → Advances (next_state config.now app (event.Admit t) store.old) store.old store.new result }
 {
     if !store.booted() || t as usize >= config.tasks.items().len() {
         return Err(NotARun);
@@ -102,9 +95,7 @@ fn admit(config: &Config, store: &mut Store, t: u32) -> Result<(), NotARun>
 
 fn idle(config: &Config, store: &mut Store) -> Result<(), NotARun>
     requires { length store.old.tasks ≡ length config.now.tasks }
-    ensures next { OnOk result ((app : AnyApp) → next_state config.now app event.Idle store.old ≡ Some store.new) }
-    ensures none { OnErr result ((app : AnyApp) → next_state config.now app event.Idle store.old ≡ None) }
-    ensures same { OnErr result (store.new ≡ store.old) }
+    ensures { (app : AnyApp) → Advances (next_state config.now app event.Idle store.old) store.old store.new result }
 {
     if !store.booted() || !is_idle(config, store) || !no_ticks(config, store) {
         return Err(NotARun);
@@ -115,9 +106,7 @@ fn idle(config: &Config, store: &mut Store) -> Result<(), NotARun>
 
 fn make_due(config: &Config, store: &mut Store, c: u32) -> Result<(), NotARun>
     requires { length store.old.clock.counters ≡ length config.now.counters }
-    ensures next { OnOk result ((app : AnyApp) → next_state config.now app (event.Due c) store.old ≡ Some store.new) }
-    ensures none { OnErr result ((app : AnyApp) → next_state config.now app (event.Due c) store.old ≡ None) }
-    ensures same { OnErr result (store.new ≡ store.old) }
+    ensures { (app : AnyApp) → Advances (next_state config.now app (event.Due c) store.old) store.old store.new result }
 {
     if !store.booted() || c as usize >= config.counters.items().len() {
         return Err(NotARun);
@@ -130,24 +119,19 @@ fn make_due(config: &Config, store: &mut Store, c: u32) -> Result<(), NotARun>
 fn tick(config: &Config, store: &mut Store, c: u32) -> Result<(), NotARun>
     requires tasks { length store.old.tasks ≡ length config.now.tasks }
     requires clocked { IsClocked config.now store.old }
-    ensures next { OnOk result ((app : AnyApp) → next_state config.now app (event.Tick c) store.old ≡ Some store.new) }
-    ensures none { OnErr result ((app : AnyApp) → next_state config.now app (event.Tick c) store.old ≡ None) }
-    ensures same { OnErr result (store.new ≡ store.old) }
+    ensures { (app : AnyApp) → Advances (next_state config.now app (event.Tick c) store.old) store.old store.new result }
 {
     if !store.booted() || !is_next_tick(config, store, c) {
         return Err(NotARun);
     }
-    ticks::tick(store, config, c);
+    crate::store::tick(store, config, c);
     store.settle();
     Ok(())
 }
 
-// One event.
 fn step(config: &Config, app: &App, store: &mut Store, event: &Event) -> Result<(), NotARun>
     requires { IsSound config.now app.now store.old }
-    ensures next { OnOk result (next_state config.now app.now event.now store.old ≡ Some store.new) }
-    ensures none { OnErr result (next_state config.now app.now event.now store.old ≡ None) }
-    ensures same { OnErr result (store.new ≡ store.old) }
+    ensures { Advances (next_state config.now app.now event.now store.old) store.old store.new result }
 {
     match *event {
         Event::Boot => boot(config, store),

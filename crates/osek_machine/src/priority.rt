@@ -170,7 +170,6 @@ fn is_above(config: &Config, store: &Store, rank_of_task: u64, task: usize, othe
     is_ready(store.task(other).state()) && rank_of_task < rank(config, store, other)
 }
 
-// A row of lines with one more.
 fn with_line(row: u32, line: u32) -> u32
     requires { line < line_count }
     ensures { result ≡ bit_or row (1 * 2 ^ line % 2 ^ 32) }
@@ -178,7 +177,6 @@ fn with_line(row: u32, line: u32) -> u32
     row | 1 << line
 }
 
-// The Ready tasks that stand above a task, a bit for each line.
 fn tasks_above(config: &Config, store: &Store, task: u32) -> u32
     requires count { length store.now.tasks ≡ length config.now.tasks }
     requires few { length config.now.tasks ≤ task_limit }

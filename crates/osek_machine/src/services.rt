@@ -30,7 +30,6 @@ fn task_state(store: &Store, t: u32) -> TaskState
     TaskState::Suspended
 }
 
-// The events of a task; one that is not there has none.
 fn task_events(store: &Store, t: u32) -> u32
     ensures { result ≡ (task store.now t).events }
 {
@@ -41,12 +40,12 @@ fn task_events(store: &Store, t: u32) -> u32
     0
 }
 
-/// The caller goes on with a status behind its change, and what is done besides.
-pub fn with_other(status: u32, change: TaskChange, other: Other) -> Plan
-    ensures { result ≡ plan (Some status) change other }
+/// What is shown behind a change of the caller, if it goes on, and what is done besides.
+pub fn plan(answer: Option<u32>, change: TaskChange, other: Other) -> Plan
+    ensures { result ≡ plan answer change other }
 {
     Plan {
-        answer: Some(status),
+        answer,
         change,
         other,
     }
@@ -56,18 +55,7 @@ pub fn with_other(status: u32, change: TaskChange, other: Other) -> Plan
 pub fn answers(status: u32, change: TaskChange) -> Plan
     ensures { result ≡ plan (Some status) change Other.Nothing }
 {
-    with_other(status, change, Other::Nothing)
-}
-
-/// The caller leaves, or a task is entered.
-pub fn leaves(change: TaskChange, other: Other) -> Plan
-    ensures { result ≡ plan None change other }
-{
-    Plan {
-        answer: None,
-        change,
-        other,
-    }
+    plan(Some(status), change, Other::Nothing)
 }
 
 /// The caller goes on with a status, and nothing is done besides.
@@ -81,7 +69,7 @@ pub fn goes_on(status: u32) -> Plan
 pub fn continues(status: u32, other: Other) -> Plan
     ensures { result ≡ plan (Some status) (TaskChange.Answer status) other }
 {
-    with_other(status, TaskChange::Answer(status), other)
+    plan(Some(status), TaskChange::Answer(status), other)
 }
 
 // One of two plans: where a task is Suspended, or else.
@@ -107,19 +95,12 @@ fn state_number(caller: u32, t: u32, state: TaskState) -> u32
     }
 }
 
-// What a service does for its caller.
-fn service_plan(
-    config: &Config,
-    store: &Store,
-    service: Service,
-    object: u32,
-    mask: u32,
-    caller: u32,
-) -> Plan
+fn service_plan(config: &Config, store: &Store, service: Service, caller: u32, call: &Call) -> Plan
     requires there { caller < length store.now.tasks }
     requires clocked { IsClocked config.now store.now }
-    ensures { result ≡ service_plan config.now service object mask caller store.now }
+    ensures { result ≡ service_plan config.now service call.now.object call.now.mask caller store.now }
 {
+    let (object, mask) = (call.object, call.mask);
     let task = store.task(caller as usize);
     let (first, second) = (task.register(Reg(10)), task.register(Reg(11)));
     match service {
@@ -127,12 +108,12 @@ fn service_plan(
             let activates = continues(E_OK, Other::Activate(object));
             by_state(store, object, activates, goes_on(E_OS_LIMIT))
         }
-        Service::TerminateTask => leaves(TaskChange::End, Other::Nothing),
+        Service::TerminateTask => plan(None, TaskChange::End, Other::Nothing),
         Service::ChainTask if object == caller => {
-            leaves(TaskChange::End, Other::Activate(caller))
+            plan(None, TaskChange::End, Other::Activate(caller))
         }
         Service::ChainTask => {
-            let chains = leaves(TaskChange::End, Other::Activate(object));
+            let chains = plan(None, TaskChange::End, Other::Activate(object));
             by_state(store, object, chains, goes_on(E_OS_LIMIT))
         }
         Service::Schedule => answers(E_OK, TaskChange::Pause),
@@ -153,7 +134,7 @@ fn service_plan(
             by_state(store, object, goes_on(E_OS_STATE), gets)
         }
         Service::WaitEvent if task.events & mask == 0 => {
-            leaves(TaskChange::Wait(mask), Other::Nothing)
+            plan(None, TaskChange::Wait(mask), Other::Nothing)
         }
         Service::WaitEvent => goes_on(E_OK),
         Service::SetRelAlarm => set_relative(config, store, object, first, second),
@@ -163,7 +144,6 @@ fn service_plan(
     }
 }
 
-// Whether what a service names is there.
 fn is_there(config: &Config, task: &TaskRoom, service: Service, object: u32) -> bool
     ensures { result ≡ is_there config.now task.now.held service object }
 {
@@ -190,22 +170,16 @@ pub fn call_in(op: &Op) -> Option<Call>
 }
 
 /// The plan of a call of a service by a task, where what it names is there.
-pub fn call_plan(
-    config: &Config,
-    store: &Store,
-    served: Service,
-    t: u32,
-    call: &Call,
-) -> Option<Plan>
+pub fn call_plan(config: &Config, store: &Store, kind: Service, t: u32, call: &Call) -> Option<Plan>
     requires there { t < length store.now.tasks }
     requires clocked { IsClocked config.now store.now }
-    ensures { result ≡ call_plan config.now served t store.now call.now }
+    ensures { result ≡ call_plan config.now kind t store.now call.now }
 {
-    let there = is_there(config, store.task(t as usize), served, call.object);
-    if call.service.code() != served.code() || !there {
+    let there = is_there(config, store.task(t as usize), kind, call.object);
+    if call.service.code() != kind.code() || !there {
         return None;
     }
-    Some(service_plan(config, store, served, call.object, call.mask, t))
+    Some(service_plan(config, store, kind, t, call))
 }
 
 fn is_in_use(store: &Store, a: u32) -> bool

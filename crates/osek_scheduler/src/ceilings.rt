@@ -27,7 +27,6 @@ pub fn highest(config: &Config) -> u32
     top
 }
 
-// The highest priority of the tasks that list a resource.
 fn highest_user(config: &Config, resource: u32) -> u32
     ensures { result ≡ greatest (map (λ d. d.priority) (filter (λ d. is_in resource d.resources) config.now.tasks)) }
 {

@@ -3,7 +3,7 @@ use Rattle.std.specs.Prelude.{◌≡◌, ℕ, ◌<◌, ◌≤◌, Bool, ◌==◌
 use Rattle.std.specs.List.{list_any}
 use Rattle.sloth_base.specs.declared.config.TaskDecl.{TaskDecl}
 use Rattle.sloth_base.specs.declared.config.Config.{Config}
-use Rattle.sloth_base.specs.declared.places.Levels.{Levels}
+use Rattle.sloth_base.specs.declared.limits.Levels.{Levels}
 use Rattle.sloth_base.specs.PriorityLevels.{level_among}
 use Rattle.sloth_base.specs.ConfigRange.{scheduler_number}
 use Rattle.sloth_base.specs.Limits.{task_limit}

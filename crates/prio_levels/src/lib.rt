@@ -1,10 +1,10 @@
 //! Levels: the numbers by which the interrupt controller does the work of the scheduler.
-//!
 //! The level of a priority is the number of tasks of no greater priority; ceilings are those of the priority ceiling
 //! protocol (`assign`, `specs/Levels`). In range: `sloth_base` (`ConfigRange`).
 #![tactic(auto)]
 
-ghost use Rattle.std.specs.Prelude.{◌≡◌, ◌<◌, ◌≤◌, ℕ, if◌then◌else◌, max, length, Contains, slice_index, slice_index_or};
+ghost use Rattle.std.specs.Prelude.{◌≡◌, ◌<◌, ◌≤◌, ℕ, if◌then◌else◌, max, length, Contains, slice_index};
+ghost use Rattle.std.specs.Prelude.{slice_index_or};
 ghost use Rattle.sloth_base.specs.declared.config.TaskDecl.{TaskDecl};
 ghost use Rattle.sloth_base.specs.ConfigRange.{InRange};
 ghost use Rattle.prio_levels.specs.Levels.{lists, ceiling, AreCeilings, AreLevels, AreTaskLevels};
@@ -18,10 +18,7 @@ fn level(tasks: &[TaskDecl], priority: u32) -> usize
     ensures level { result ≡ level_among tasks.now priority }
     ensures few { result ≤ length tasks.now }
 {
-    tasks
-        .iter()
-        .filter(|task| task.priority <= priority)
-        .count()
+    tasks.iter().filter(|it| it.priority <= priority).count()
 }
 
 /// The levels of the tasks in the order of their numbers, then zeros.
@@ -39,10 +36,7 @@ fn task_levels(tasks: &[TaskDecl]) -> [u8; TASK_LIMIT]
 fn lists_resource(task: &TaskDecl, resource: u32) -> bool
     ensures { result ≡ lists resource task.now }
 {
-    task.resources
-        .items()
-        .iter()
-        .any(|listed| listed.0 == resource)
+    task.resources.items().iter().any(|it| it.0 == resource)
 }
 
 /// The greater of two levels, where the second counts.
@@ -95,7 +89,8 @@ pub fn assign(config: &Config) -> Levels
     ensures within { (t : ℕ) → t < length config.now.tasks
         → (0 < slice_index result.task t) × (slice_index result.task t ≤ result.top) }
     // A ceiling is no less than the level of a task that lists the resource.
-    ensures covers { (t r : ℕ) (d : TaskDecl) → t < length config.now.tasks → Contains (slice_index_or config.now.tasks t d).resources r
+    ensures covers { (t r : ℕ) (d : TaskDecl) → t < length config.now.tasks
+        → Contains (slice_index_or config.now.tasks t d).resources r
         → slice_index result.task t ≤ slice_index result.ceiling r }
 {
     let tasks = config.tasks.items();

@@ -17,7 +17,7 @@ use Rattle.osek_blocking.specs.Walks.{Position}
 use Rattle.osek_blocking.specs.Sections.{IsSection, IsLower}
 use Rattle.osek_blocking.proofs.FrameEffects.{frame_effect}
 use Rattle.osek_blocking.proofs.Placed.{Placed, step_placed}
-use Rattle.bound_rules.specs.declared.weights.BodyWeights.{BodyWeights}
+use Rattle.bound_rules.specs.declared.bound.BodyWeights.{BodyWeights}
 use Rattle.walk_sums.specs.Weights.{going_at, ending_at}
 use Rattle.sim_induction.specs.Pace.{ItemSizes, next_size, paced_counts}
 use Rattle.sim_induction.specs.Spent.{spent_behind}

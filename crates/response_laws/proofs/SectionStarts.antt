@@ -23,7 +23,7 @@ use Rattle.osek_blocking.specs.Walks.{Position}
 use Rattle.osek_blocking.specs.Sections.{operation_at, IsLower}
 use Rattle.osek_blocking.proofs.FrameEffects.{frame_effect}
 use Rattle.osek_blocking.proofs.Placed.{Placed, step_placed}
-use Rattle.bound_rules.specs.declared.weights.BodyWeights.{BodyWeights}
+use Rattle.bound_rules.specs.declared.bound.BodyWeights.{BodyWeights}
 use Rattle.walk_sums.specs.Weights.{going_at, ending_at}
 use Rattle.walk_sums.specs.Rounds.{Reaches}
 use Rattle.walk_sums.specs.declared.counted.Counted.TheVariants as counts

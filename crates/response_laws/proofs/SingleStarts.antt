@@ -18,7 +18,7 @@ use Rattle.osek_scheduler.specs.Apart.{IsActive, static_priority}
 use Rattle.osek_scheduler.proofs.Facts.{Facts}
 use Rattle.osek_scheduler.proofs.Steps.{autostarted_at}
 use Rattle.osek_blocking.specs.Sections.{operation_at, IsLower}
-use Rattle.bound_rules.specs.declared.weights.BodyWeights.{BodyWeights}
+use Rattle.bound_rules.specs.declared.bound.BodyWeights.{BodyWeights}
 use Rattle.walk_sums.specs.Weights.{going_at, ending_at}
 use Rattle.walk_sums.specs.Rounds.{Reaches}
 use Rattle.walk_sums.specs.declared.counted.Counted.{Counted}

@@ -14,7 +14,7 @@ use Rattle.osek_scheduler.specs.State.{Frame, Task, System, task, opening}
 use Rattle.osek_scheduler.specs.Steps.{OsekStep}
 use Rattle.osek_scheduler.specs.Runs.{AreStepsTo, OsekRun}
 use Rattle.osek_scheduler.proofs.Leading.{leads-append}
-use Rattle.bound_rules.specs.declared.weights.BodyWeights.{BodyWeights}
+use Rattle.bound_rules.specs.declared.bound.BodyWeights.{BodyWeights}
 use Rattle.sim_induction.specs.Events.{has_frames, enter_counts, stretch_counts}
 use Rattle.sim_induction.specs.Pace.{ItemSizes, AreAtMost, next_size, next_size_of, gap_counts}
 use Rattle.sim_induction.specs.Weighed.{AreWithinWeights}

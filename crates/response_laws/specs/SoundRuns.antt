@@ -9,7 +9,7 @@ use Rattle.code_rules.specs.AppRange.{IsTaskCode}
 use Rattle.code_rules.specs.WellFormed.{WellFormed}
 use Rattle.load_text.specs.declared.load_line.Entry.{Entry}
 use Rattle.load_text.specs.Loads.{KeepDistances, work}
-use Rattle.bound_rules.specs.declared.weights.BodyWeights.{BodyWeights}
+use Rattle.bound_rules.specs.declared.bound.BodyWeights.{BodyWeights}
 use Rattle.code_lengths.specs.LongestPaths.{tick_path, boot_path}
 use Rattle.sim_induction.specs.Events.{enter_counts}
 use Rattle.sim_induction.specs.Items.{length_of, AreLengths}

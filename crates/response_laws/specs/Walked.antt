@@ -12,7 +12,7 @@ use Rattle.osek_scheduler.specs.State.{Frame, task}
 use Rattle.osek_scheduler.specs.Runs.{OsekRun}
 use Rattle.osek_blocking.specs.Walks.{Position, place}
 use Rattle.osek_blocking.specs.Sections.{IsSection}
-use Rattle.bound_rules.specs.declared.weights.BodyWeights.{BodyWeights}
+use Rattle.bound_rules.specs.declared.bound.BodyWeights.{BodyWeights}
 use Rattle.walk_sums.specs.Rounds.{is_wait, IsPart, IsFirst, IsBehindWait, Anywhere}
 use Rattle.walk_sums.specs.Told.{NoneIsAbove}
 use Rattle.sim_induction.specs.Pace.{ItemSizes}

@@ -12,7 +12,7 @@ use Rattle.sloth_base.specs.Limits.{count_limit}
 use Rattle.stack_bounds.proofs.Below.{max_below-at}
 use Rattle.osek_blocking.specs.Walks.{Position, IsWalk, AreConsecutive}
 use Rattle.osek_blocking.specs.Sections.{IsSection}
-use Rattle.bound_rules.specs.declared.weights.BodyWeights.{BodyWeights}
+use Rattle.bound_rules.specs.declared.bound.BodyWeights.{BodyWeights}
 use Rattle.run_windows.specs.RunWindows.{IsLeastOf}
 use Rattle.walk_sums.specs.declared.sections.Sum.{Sum}
 use Rattle.walk_sums.specs.declared.sections.Sum.TheVariants as sum

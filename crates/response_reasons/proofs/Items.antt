@@ -9,12 +9,12 @@ use Rattle.sloth_base.specs.declared.app.Op.TheVariants as op
 use Rattle.sloth_base.specs.Named.{function, operation, item_of}
 use Rattle.code_rules.specs.Code.{IsItem, HasCall}
 use Rattle.bound_rules.specs.declared.bound.Body.{Body}
-use Rattle.bound_rules.specs.declared.weights.BodyWeights.{BodyWeights}
+use Rattle.bound_rules.specs.declared.bound.BodyWeights.{BodyWeights}
 use Rattle.bound_rules.specs.Items.{reaches_level}
 use Rattle.run_windows.specs.RunWindows.{IsLeastOf}
 use Rattle.run_windows.proofs.Leasts.{same_least, Below}
 use Rattle.walk_sums.specs.declared.graph.Ways.{Ways}
-use Rattle.walk_sums.specs.declared.kinds.Kind.{Kind}
+use Rattle.walk_sums.specs.declared.levels.Kind.{Kind}
 use Rattle.walk_sums.specs.Activations.{is_raised, called_level, ReachesCall, level_behind}
 use Rattle.walk_sums.specs.Graph.{AreInside}
 use Rattle.walk_sums.specs.KnownBodies.{no_body, IsKnownBody}

@@ -13,12 +13,12 @@ use Rattle.code_rules.specs.Code.{IsItem, IsPathStep}
 use Rattle.osek_blocking.specs.Walks.{chains_itself}
 use Rattle.bound_rules.specs.declared.bound.Body.{Body}
 use Rattle.bound_rules.specs.declared.bound.Summary.{Summary}
-use Rattle.bound_rules.specs.declared.weights.BodyWeights.{BodyWeights}
+use Rattle.bound_rules.specs.declared.bound.BodyWeights.{BodyWeights}
 use Rattle.bound_rules.specs.Items.{reaches_level}
 use Rattle.bound_rules.specs.Summaries.{summary_of}
 use Rattle.bound_rules.specs.Weights.{going_weight}
 use Rattle.walk_sums.specs.declared.graph.Ways.{Ways}
-use Rattle.walk_sums.specs.declared.kinds.Kind.{Kind}
+use Rattle.walk_sums.specs.declared.levels.Kind.{Kind}
 use Rattle.walk_sums.specs.Graph.{HasWay, AreInside}
 use Rattle.walk_sums.specs.Activations.{is_raised, is_plain, IsRaisedCall}
 use Rattle.walk_sums.specs.Computed.{is_alive, going_size}

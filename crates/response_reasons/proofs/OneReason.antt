@@ -3,8 +3,8 @@ use Rattle.std.proofs.Common.{◌≡◌, ◌∙◌, ℕ, Bool, true, false, leng
 use Rattle.sloth_base.specs.declared.config.Config.{Config}
 use Rattle.sloth_base.specs.declared.app.App.{App}
 use Rattle.run_windows.specs.declared.costs.Costs.{Costs}
-use Rattle.run_windows.specs.declared.told.Untold.{Untold}
-use Rattle.run_windows.specs.declared.told.Untold.TheVariants as untold
+use Rattle.run_windows.specs.declared.costs.Untold.{Untold}
+use Rattle.run_windows.specs.declared.costs.Untold.TheVariants as untold
 use Rattle.run_windows.specs.FirstUntold.{first_untold}
 use Rattle.run_windows.proofs.OneLeast.{one_least}
 use Rattle.walk_sums.specs.Weights.{item_weights}

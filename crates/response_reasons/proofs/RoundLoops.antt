@@ -2,10 +2,10 @@
 use Rattle.std.proofs.Common.{ℕ, ◌⊎◌, inl, inr, List, Option, ⊎_elim}
 use Rattle.sloth_base.specs.declared.config.Config.{Config}
 use Rattle.sloth_base.specs.declared.app.App.{App}
-use Rattle.bound_rules.specs.declared.weights.BodyWeights.{BodyWeights}
+use Rattle.bound_rules.specs.declared.bound.BodyWeights.{BodyWeights}
 use Rattle.run_windows.specs.RunWindows.{IsLeastOf}
 use Rattle.run_windows.proofs.Leasts.{same_least}
-use Rattle.walk_sums.specs.declared.kinds.Kind.TheVariants as kinds
+use Rattle.walk_sums.specs.declared.levels.Kind.TheVariants as kinds
 use Rattle.walk_sums.specs.Rounds.{IsClean}
 use Rattle.response_reasons.specs.Loops.{HasTurnLoop}
 use Rattle.response_reasons.specs.Reasons.{HasRoundLoop}

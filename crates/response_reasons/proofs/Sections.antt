@@ -4,10 +4,10 @@ use Rattle.sloth_base.specs.declared.config.Config.{Config}
 use Rattle.sloth_base.specs.declared.app.App.{App}
 use Rattle.sloth_base.specs.Named.{declaration, body_of}
 use Rattle.osek_scheduler.specs.Apart.{static_priority}
-use Rattle.bound_rules.specs.declared.weights.BodyWeights.{BodyWeights}
+use Rattle.bound_rules.specs.declared.bound.BodyWeights.{BodyWeights}
 use Rattle.run_windows.specs.RunWindows.{IsLeastOf}
-use Rattle.walk_sums.specs.declared.kinds.Kind.{Kind}
-use Rattle.walk_sums.specs.declared.kinds.Kind.TheVariants as kinds
+use Rattle.walk_sums.specs.declared.levels.Kind.{Kind}
+use Rattle.walk_sums.specs.declared.levels.Kind.TheVariants as kinds
 use Rattle.response_reasons.specs.Loops.{HasLoopAt, HasTurnLoop, HasSectionLoop}
 
 module _ (config : Config) (app : App) (weights : List BodyWeights) (t b : ℕ) (is_body : b ≡ body_of app.funcs t) (line : Option ℕ) where

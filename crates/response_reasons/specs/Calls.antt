@@ -11,8 +11,8 @@ use Rattle.sloth_base.specs.Named.{operation, item_of, body_of}
 use Rattle.sloth_base.specs.ServiceCodes.{service_of}
 use Rattle.bound_rules.specs.declared.bound.Body.{Body}
 use Rattle.run_windows.specs.declared.costs.Costs.{Costs}
-use Rattle.run_windows.specs.declared.window.Start.{Start}
-use Rattle.run_windows.specs.declared.window.Start.TheVariants as start
+use Rattle.run_windows.specs.declared.costs.Start.{Start}
+use Rattle.run_windows.specs.declared.costs.Start.TheVariants as start
 use Rattle.run_windows.specs.RunWindows.{IsLeastOf, may_serve, call_path, services_front}
 use Rattle.walk_sums.specs.declared.counted.Counted.{Counted}
 use Rattle.walk_sums.specs.declared.counted.Counted.TheVariants as counts

@@ -8,7 +8,7 @@ use Rattle.sloth_base.specs.Named.{no_function, no_item}
 use Rattle.call_graph.specs.Tables.{max_below}
 use Rattle.osek_blocking.specs.Walks.{Position}
 use Rattle.osek_blocking.specs.Sections.{IsSection}
-use Rattle.bound_rules.specs.declared.weights.BodyWeights.{BodyWeights}
+use Rattle.bound_rules.specs.declared.bound.BodyWeights.{BodyWeights}
 use Rattle.walk_sums.specs.declared.sections.Sum.{Sum}
 use Rattle.walk_sums.specs.declared.sections.Sum.TheVariants as sum
 use Rattle.walk_sums.specs.Early.{BeginsAt, IsEarlySection}

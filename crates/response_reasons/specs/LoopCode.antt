@@ -7,13 +7,13 @@ use Rattle.sloth_base.specs.declared.app.Op.TheVariants as op
 use Rattle.sloth_base.specs.Named.{function, item_of}
 use Rattle.bound_rules.specs.declared.bound.Body.{Body}
 use Rattle.bound_rules.specs.declared.bound.Summary.{Summary}
-use Rattle.bound_rules.specs.declared.weights.BodyWeights.{BodyWeights}
+use Rattle.bound_rules.specs.declared.bound.BodyWeights.{BodyWeights}
 use Rattle.bound_rules.specs.Items.{reaches_level}
 use Rattle.bound_rules.specs.Summaries.{summary_of}
 use Rattle.bound_rules.specs.Weights.{no_weights}
 use Rattle.run_windows.specs.RunWindows.{IsLeastOf}
 use Rattle.walk_sums.specs.declared.graph.Ways.{Ways}
-use Rattle.walk_sums.specs.declared.kinds.Kind.{Kind}
+use Rattle.walk_sums.specs.declared.levels.Kind.{Kind}
 use Rattle.walk_sums.specs.Graph.{ways_of}
 use Rattle.walk_sums.specs.Computed.{is_alive, going_size}
 use Rattle.walk_sums.specs.Links.{item_ways}

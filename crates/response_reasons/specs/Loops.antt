@@ -5,10 +5,10 @@ use Rattle.sloth_base.specs.declared.app.App.{App}
 use Rattle.sloth_base.specs.Named.{function, operation, item_of, declaration, body_of}
 use Rattle.code_rules.specs.Code.{IsItem}
 use Rattle.osek_scheduler.specs.Apart.{static_priority}
-use Rattle.bound_rules.specs.declared.weights.BodyWeights.{BodyWeights}
+use Rattle.bound_rules.specs.declared.bound.BodyWeights.{BodyWeights}
 use Rattle.bound_rules.specs.Weights.{going_weight}
-use Rattle.walk_sums.specs.declared.kinds.Kind.{Kind}
-use Rattle.walk_sums.specs.declared.kinds.Kind.TheVariants as kinds
+use Rattle.walk_sums.specs.declared.levels.Kind.{Kind}
+use Rattle.walk_sums.specs.declared.levels.Kind.TheVariants as kinds
 use Rattle.walk_sums.specs.Activations.{is_raised, ReachesItem, IsRaisedCall, ReachesCall, level_behind}
 use Rattle.walk_sums.specs.Parts.{IsOpenStep, SumsBack}
 use Rattle.walk_sums.specs.Known.{HasLimit}

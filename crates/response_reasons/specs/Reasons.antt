@@ -2,8 +2,8 @@
 use Rattle.std.specs.Prelude.{ℕ, ◌<◌, ◌≡◌, ◌≢◌, ◌⊎◌, Bool, true, false, List, length, Option, Some, None}
 use Rattle.sloth_base.specs.declared.config.Config.{Config}
 use Rattle.sloth_base.specs.declared.app.App.{App}
-use Rattle.bound_rules.specs.declared.weights.BodyWeights.{BodyWeights}
-use Rattle.walk_sums.specs.declared.kinds.Kind.TheVariants as kinds
+use Rattle.bound_rules.specs.declared.bound.BodyWeights.{BodyWeights}
+use Rattle.walk_sums.specs.declared.levels.Kind.TheVariants as kinds
 use Rattle.walk_sums.specs.declared.counted.Counted.{Counted}
 use Rattle.walk_sums.specs.declared.counted.Counted.TheVariants as counts
 use Rattle.walk_sums.specs.Counted.{counted_weights}
@@ -11,8 +11,8 @@ use Rattle.walk_sums.specs.Rounds.{IsClean}
 use Rattle.walk_sums.specs.Weights.{item_weights}
 use Rattle.response_reasons.specs.Loops.{HasTurnLoop, HasSectionLoop}
 use Rattle.run_windows.specs.declared.costs.Costs.{Costs}
-use Rattle.run_windows.specs.declared.told.Untold.{Untold}
-use Rattle.run_windows.specs.declared.told.Untold.TheVariants as untold
+use Rattle.run_windows.specs.declared.costs.Untold.{Untold}
+use Rattle.run_windows.specs.declared.costs.Untold.TheVariants as untold
 use Rattle.run_windows.specs.FirstUntold.{first_untold}
 use Rattle.run_windows.specs.RunWindows.{IsLeastOf}
 use Rattle.run_windows.specs.Windows.{is_lower}

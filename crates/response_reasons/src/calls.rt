@@ -6,59 +6,35 @@ ghost use Rattle.run_windows.specs.RunWindows.{IsLeastOf, call_path, services_fr
 ghost use Rattle.sloth_base.specs.declared.service.Service.TheVariants as service;
 ghost use Rattle.walk_sums.specs.declared.counted.Counted.TheVariants as counts;
 ghost use Rattle.response_reasons.specs.LoopCode.{line_at};
-ghost use Rattle.response_reasons.specs.Calls.{op_line, item_line, server_line, IsCallLine, AreCallLines};
+ghost use Rattle.response_reasons.specs.Calls.{item_line, server_line, IsCallLine, AreCallLines};
 ghost use Rattle.response_reasons.specs.Calls.{HasServer, HasLongestServer, HasCodedServer};
 ghost use Rattle.response_reasons.specs.Calls.{HasFreeServer, HasActivator, IsServiceLine, StartsInside};
 
-use crate::loops::{no_lines, numbered_line};
+use crate::loops::{Line, no_lines, numbered_line};
 use bound_rules::{Body, is_marked};
 use run_windows::level::{lesser, may_serve, services_front};
 use run_windows::{Costs, Start, call_path};
 use sloth_base::{Func, Op, Result, Service};
 use walk_sums::{Counted, Walks, is_ending_counted, numbered_body, numbered_function};
 
-// Of an operation of this line, by those of the functions.
-fn op_line(counted: Counted, line: u32, lines: &[Option<u32>], op: Op) -> Option<u32>
-    ensures { result ≡ op_line counted line lines.now op }
-{
-    match op {
-        Op::Invoke { func } => numbered_line(lines, func.0 as usize),
-        _ => {
-            if is_ending_counted(counted, op) {
-                Some(line)
-            } else {
-                None
-            }
-        }
-    }
-}
-
-// Of an item, where walks reach it.
-fn item_line(
-    counted: Counted,
-    func: &Func,
-    body: &Body,
-    lines: &[Option<u32>],
-    number: usize,
-) -> Option<u32>
+// Of an item, where walks reach it, by those of the functions.
+fn item_line(counted: Counted, func: &Func, body: &Body, lines: &[Line], number: usize) -> Line
     requires { number < length func.now.items }
     ensures { result ≡ item_line counted func.now body.now lines.now number }
 {
-    if is_marked(body.reached.items(), number) {
-        let items = func.items.items();
-        op_line(counted, items[number].line, lines, items[number].op)
-    } else {
-        None
+    if !is_marked(body.reached.items(), number) {
+        return None;
+    }
+    let item = &func.items.items()[number];
+    match item.op {
+        Op::Invoke { func } => numbered_line(lines, func.0 as usize),
+        _ if is_ending_counted(counted, item.op) => Some(item.line),
+        _ => None,
     }
 }
 
 // Of a function, by those that it calls.
-fn function_line(
-    walks: &Walks<'_>,
-    counted: Counted,
-    lines: &[Option<u32>],
-    number: usize,
-) -> Option<u32>
+fn function_line(walks: &Walks, counted: Counted, lines: &[Line], number: usize) -> Line
     requires known { number < length walks.now.app.funcs }
     requires called { (g : ℕ) → HasCall walks.now.app number g
         → IsCallLine walks.now.app counted g (line_at lines.now g) }
@@ -73,8 +49,7 @@ fn function_line(
     least
 }
 
-// Of all functions.
-fn function_lines(walks: &Walks<'_>, counted: Counted) -> Result<Vec<Option<u32>>>
+fn function_lines(walks: &Walks, counted: Counted) -> Result<Vec<Line>>
     ensures { IfOk result (λ lines. AreCallLines walks.now.app counted lines.items) }
 {
     let mut lines = no_lines(walks.alloc(), walks.app().funcs.items().len())?;
@@ -86,13 +61,7 @@ fn function_lines(walks: &Walks<'_>, counted: Counted) -> Result<Vec<Option<u32>
 }
 
 // Of a task that may serve in front of a window of h, by those of the functions.
-fn server_line(
-    walks: &Walks<'_>,
-    costs: &Costs,
-    h: usize,
-    lines: &[Option<u32>],
-    k: usize,
-) -> Option<u32>
+fn server_line(walks: &Walks, costs: &Costs, h: usize, lines: &[Line], k: usize) -> Line
     requires { k < length walks.now.config.tasks }
     ensures { result ≡ server_line walks.now.app costs.now h lines.now k }
 {
@@ -103,8 +72,7 @@ fn server_line(
     }
 }
 
-// Of all these.
-fn serving_line(walks: &Walks<'_>, costs: &Costs, h: usize, counted: Counted) -> Result<Option<u32>>
+fn serving_line(walks: &Walks, costs: &Costs, h: usize, counted: Counted) -> Result<Line>
     ensures { IfOk result (IsLeastOf (HasServer walks.now.config walks.now.app costs.now h counted)) }
 {
     let lines = function_lines(walks, counted)?;
@@ -123,7 +91,7 @@ fn is_longest(costs: &Costs, h: usize, service: Service) -> bool
 }
 
 // Of a service, if it is one of the longest.
-fn longest_line(walks: &Walks<'_>, costs: &Costs, h: usize, service: Service) -> Result<Option<u32>>
+fn longest_line(walks: &Walks, costs: &Costs, h: usize, service: Service) -> Result<Line>
     ensures { IfOk result (IsLeastOf (HasLongestServer walks.now.config walks.now.app costs.now h service)) }
 {
     if is_longest(costs, h, service) {
@@ -133,8 +101,7 @@ fn longest_line(walks: &Walks<'_>, costs: &Costs, h: usize, service: Service) ->
     }
 }
 
-// Of that of a code.
-fn coded_line(walks: &Walks<'_>, costs: &Costs, h: usize, code: u8) -> Result<Option<u32>>
+fn coded_line(walks: &Walks, costs: &Costs, h: usize, code: u8) -> Result<Line>
     ensures { IfOk result (IsLeastOf (HasCodedServer walks.now.config walks.now.app costs.now h code)) }
 {
     match Service::from_code(code) {
@@ -143,8 +110,7 @@ fn coded_line(walks: &Walks<'_>, costs: &Costs, h: usize, code: u8) -> Result<Op
     }
 }
 
-// Of all.
-fn free_line(walks: &Walks<'_>, costs: &Costs, h: usize) -> Result<Option<u32>>
+fn free_line(walks: &Walks, costs: &Costs, h: usize) -> Result<Line>
     ensures { IfOk result (IsLeastOf (HasFreeServer walks.now.config walks.now.app costs.now h)) }
 {
     let mut least = None;
@@ -156,7 +122,7 @@ fn free_line(walks: &Walks<'_>, costs: &Costs, h: usize) -> Result<Option<u32>>
 }
 
 // A ChainTask of the task, or else an ActivateTask.
-fn activating_line(walks: &Walks<'_>, costs: &Costs, h: usize, j: usize) -> Result<Option<u32>>
+fn activating_line(walks: &Walks, costs: &Costs, h: usize, j: usize) -> Result<Line>
     requires small { j < 4294967296 }
     ensures { IfOk result (IsLeastOf (HasActivator walks.now.config walks.now.app costs.now h j)) }
 {
@@ -170,16 +136,14 @@ fn activating_line(walks: &Walks<'_>, costs: &Costs, h: usize, j: usize) -> Resu
     }
 }
 
-// What sets its events.
-fn setting_line(walks: &Walks<'_>, costs: &Costs, h: usize, j: usize) -> Result<Option<u32>>
+fn setting_line(walks: &Walks, costs: &Costs, h: usize, j: usize) -> Result<Line>
     requires small { j < 4294967296 }
     ensures { IfOk result (IsLeastOf (HasServer walks.now.config walks.now.app costs.now h (counts.Settings j))) }
 {
     serving_line(walks, costs, h, Counted::Settings(j as u32))
 }
 
-// A GetResource of the task.
-fn raising_line(walks: &Walks<'_>, k: usize) -> Result<Option<u32>>
+fn raising_line(walks: &Walks, k: usize) -> Result<Line>
     requires { k < length walks.now.config.tasks }
     ensures { IfOk result
         (IsCallLine walks.now.app (counts.Calls service.GetResource) (body_of walks.now.app.funcs k)) }
@@ -189,7 +153,7 @@ fn raising_line(walks: &Walks<'_>, k: usize) -> Result<Option<u32>>
 }
 
 /// The least source line of the service in front of the windows of a start.
-pub fn service_line(walks: &Walks<'_>, costs: &Costs, h: usize, start: Start) -> Result<Option<u32>>
+pub fn service_line(walks: &Walks, costs: &Costs, h: usize, start: Start) -> Result<Line>
     requires inside { StartsInside (length walks.now.config.tasks) start }
     requires small { length walks.now.config.tasks < 4294967296 }
     ensures { IfOk result (IsServiceLine walks.now.config walks.now.app costs.now h start) }

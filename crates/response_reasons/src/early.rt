@@ -1,18 +1,17 @@
 //! Where greatest sections begin.
-ghost use Rattle.std.specs.Prelude.{◌-◌, ◌<◌, ◌≤◌, ◌≡◌, Some, length, Decides, IfOk};
+ghost use Rattle.std.specs.Prelude.{◌-◌, ◌<◌, ◌≤◌, ◌≡◌, Some, length, IfOk};
 ghost use Rattle.osek_blocking.specs.Sections.{IsLower, IsSection};
 ghost use Rattle.run_windows.specs.RunWindows.{IsLeastOf};
 ghost use Rattle.walk_sums.specs.declared.sections.Sum.TheVariants as sums;
 ghost use Rattle.walk_sums.specs.Told.{IsToldSum};
 ghost use Rattle.walk_sums.specs.Weights.{AreWeights};
 ghost use Rattle.response_reasons.specs.EarlySections.{last_item_line, last_line, is_reached};
-ghost use Rattle.response_reasons.specs.EarlySections.{BeginsEarly, BeginsSection, IsAround};
+ghost use Rattle.response_reasons.specs.EarlySections.{BeginsSection, IsAround};
 
 use bound_rules::BodyWeights;
 use sloth_base::{Func, Item, Result};
 use walk_sums::{Sum, Walks};
 
-// The greatest source line of these items.
 fn last_item_line(items: &[Item]) -> u32
     ensures { result ≡ last_item_line items.now }
 {
@@ -23,7 +22,6 @@ fn last_item_line(items: &[Item]) -> u32
     last
 }
 
-// Of those of functions.
 fn last_line(funcs: &[Func]) -> u32
     ensures { result ≡ last_line funcs.now }
 {
@@ -42,27 +40,6 @@ fn is_reached(sum: Sum, counts: u32) -> bool
         Sum::Counts(sum) => counts <= sum,
         Sum::Huge | Sum::Endless => true,
     }
-}
-
-// Whether a section that begins at a line or a lesser one has as great a sum.
-fn begins_early(
-    walks: &Walks<'_>,
-    weights: &[BodyWeights],
-    above: usize,
-    task: usize,
-    counts: u32,
-    line: u32,
-) -> Result<bool>
-    requires weights { AreWeights walks.now.app weights.now }
-    requires above { above < length walks.now.config.tasks }
-    requires lower { IsLower walks.now.config above task }
-    requires told { IsToldSum (IsSection walks.now.config walks.now.app above task) weights.now (sums.Counts counts) }
-    requires some { 0 < counts }
-    ensures { IfOk result (λ begins. Decides begins
-        (BeginsEarly walks.now.config walks.now.app weights.now above task counts line)) }
-{
-    let sum = walks.early_section_sum(weights, above, task, line)?;
-    Ok(is_reached(sum, counts))
 }
 
 /// Lines up to one, among which a least one is sought.
@@ -84,7 +61,7 @@ fn middle(least: u32, most: u32) -> u32
 
 // The half of the lines in which the least one lies.
 fn halved(
-    walks: &Walks<'_>,
+    walks: &Walks,
     weights: &[BodyWeights],
     above: usize,
     task: usize,
@@ -101,25 +78,21 @@ fn halved(
     ensures around { IfOk result (IsAround walks.now.config walks.now.app weights.now above task counts) }
     ensures fewer { IfOk result (λ half. half.most - half.least < range.most - range.least) }
 {
-    let line = middle(range.least, range.most);
-    let begins = begins_early(walks, weights, above, task, counts, line)?;
-    if begins {
-        Ok(LineRange {
-            least: range.least,
-            most: line,
-        })
+    let (least, most) = (range.least, range.most);
+    let line = middle(least, most);
+    let sum = walks.early_section_sum(weights, above, task, line)?;
+    if is_reached(sum, counts) {
+        Ok(LineRange { least, most: line })
     } else {
-        Ok(LineRange {
-            least: line + 1,
-            most: range.most,
-        })
+        let least = line + 1;
+        Ok(LineRange { least, most })
     }
 }
 
 /// The least source line at which a section of a task begins that has the greatest sum, by these weights, of those for
 /// task `above`. It is found by halves: sections up to a line are among those up to a later one.
 pub fn greatest_section_line(
-    walks: &Walks<'_>,
+    walks: &Walks,
     weights: &[BodyWeights],
     above: usize,
     task: usize,

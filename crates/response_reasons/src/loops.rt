@@ -1,29 +1,35 @@
 //! Loops in bodies, function by function. The least lines of loops on walks of a task.
-ghost use Rattle.std.specs.Prelude.{◌≡◌, ◌+◌, ◌<◌, ℕ, None, Some, false, length, get_or, IfOk};
+//! Nodes twice: once before something has weighed on the way, and once afterwards.
+ghost use Rattle.std.specs.Prelude.{◌≡◌, ◌+◌, ◌<◌, ℕ, None, Some, false, length, get_or, IfOk, Decides};
 ghost use Rattle.sloth_base.specs.Named.{item_of};
 ghost use Rattle.code_rules.specs.Code.{HasCall};
 ghost use Rattle.bound_rules.specs.Summaries.{summary_of};
 ghost use Rattle.run_windows.specs.Costs.{lesser};
 ghost use Rattle.run_windows.specs.RunWindows.{IsLeastOf};
-ghost use Rattle.walk_sums.specs.Graph.{AreInside};
+ghost use Rattle.walk_sums.specs.Graph.{AreInside, ways_of};
 ghost use Rattle.walk_sums.specs.Known.{AreSums, IsSummed};
 ghost use Rattle.walk_sums.specs.Weights.{AreWeights};
 ghost use Rattle.response_reasons.specs.LoopCode.{IsLoopCode, IsOfAllLines, is_limited, AreLoopWays, IsLineOfLoop, line_at, called_line, IsLeastLine, AreLeastLines};
 ghost use Rattle.response_reasons.specs.Loops.{HasTurnLoop, HasSectionLoop};
+ghost use Rattle.walk_sums.specs.Search.{IsReachable};
+ghost use Rattle.response_reasons.specs.Doubled.{second_way, second_ways, first_ways, AreFirst, AreDoubled};
 
-use crate::doubled::{doubled, is_on_loop};
 use bound_rules::{Body, BodyWeights, Summary, is_marked, number_at, reaches_level, weights_at};
 use run_windows::level::lesser;
 use sloth_base::{App, Config, Func, Op, Result};
 use std::alloc::Global;
 use std::marker::Model;
 use text_pieces::push;
-use walk_sums::graph::Ways;
+use walk_sums::bodies::body_ways;
+use walk_sums::graph::{Ways, reachable};
 use walk_sums::items::{alive_items, going_items, going_sizes};
-use walk_sums::links::body_ways;
 use walk_sums::{Kind, Walks, numbered_body, numbered_function};
 
+/// The least source line of some, if there is one.
+pub type Line = Option<u32>;
+
 /// Task code with weights, and by them the summaries of its functions where their callers have raised the task.
+#[derive(Drop)]
 pub struct Loops<'a> {
     alloc: Global,
     config: &'a Config,
@@ -33,22 +39,6 @@ pub struct Loops<'a> {
     weights: &'a [BodyWeights],
     kind: Kind,
     whole: &'a [Summary],
-}
-
-// Written out: what is derived is proved anew wherever a value is let go.
-impl Drop for Loops<'_> {
-    fn drop(self) {
-        let Loops {
-            alloc: _,
-            config: _,
-            app: _,
-            order: _,
-            bodies: _,
-            weights: _,
-            kind: _,
-            whole: _,
-        } = self;
-    }
 }
 
 impl<'a> Model for Loops<'a> {
@@ -88,8 +78,7 @@ fn limited_functions(alloc: Global, whole: &[Summary]) -> Result<Vec<bool>>
     Ok(limited)
 }
 
-/// The line of an item that lies on a loop.
-fn own_line(alloc: Global, func: &Func, twice: &[Ways], item: usize) -> Result<Option<u32>>
+fn own_line(alloc: Global, func: &Func, twice: &[Ways], item: usize) -> Result<Line>
     requires inside { AreInside twice.now }
     requires both { length twice.now ≡ length func.now.items + length func.now.items }
     requires known { item < length func.now.items }
@@ -104,32 +93,26 @@ fn own_line(alloc: Global, func: &Func, twice: &[Ways], item: usize) -> Result<O
 }
 
 /// The line of a function, by a table.
-pub fn numbered_line(lines: &[Option<u32>], number: usize) -> Option<u32>
+pub fn numbered_line(lines: &[Line], number: usize) -> Line
     ensures { result ≡ line_at lines.now number }
 {
-    match lines.get(number) {
-        Some(line) => *line,
-        None => None,
-    }
+    lines.get(number).copied().unwrap_or(None)
 }
 
-/// That of the function that an item calls.
 fn called_line(
     func: &Func,
     body: &Body,
     level: Option<u32>,
-    whole: &[Option<u32>],
-    own: &[Option<u32>],
+    whole: &[Line],
+    own: &[Line],
     item: usize,
-) -> Option<u32>
+) -> Line
     requires { item < length func.now.items }
     ensures { result ≡ called_line body.now level whole.now own.now item (item_of func.now item).op }
 {
     match func.items.items()[item].op {
-        Op::Invoke { func } => {
-            if !is_marked(body.reached.items(), item) {
-                None
-            } else if reaches_level(level, number_at(body.ceilings.items(), item)) {
+        Op::Invoke { func } if is_marked(body.reached.items(), item) => {
+            if reaches_level(level, number_at(body.ceilings.items(), item)) {
                 numbered_line(whole, func.0 as usize)
             } else {
                 numbered_line(own, func.0 as usize)
@@ -139,15 +122,10 @@ fn called_line(
     }
 }
 
-/// So many lines of nothing.
-pub fn no_lines(alloc: Global, count: usize) -> Result<Vec<Option<u32>>>
+pub fn no_lines(alloc: Global, count: usize) -> Result<Vec<Line>>
     ensures count { IfOk result (λ lines. length lines.items ≡ count) }
 {
-    let mut lines = Vec::new(alloc);
-    for _number in 0..count {
-        push(&mut lines, None)?;
-    }
-    Ok(lines)
+    Ok(Vec::from_elem(alloc, None, count)?)
 }
 
 impl<'a> Loops<'a> {
@@ -192,13 +170,7 @@ impl<'a> Loops<'a> {
 
     /// The least line of an item on a loop in function `number`, or in one that it calls: by those of these, where the
     /// task is raised as they are called, and where not.
-    fn line(
-        &self,
-        level: Option<u32>,
-        number: usize,
-        whole: &[Option<u32>],
-        own: &[Option<u32>],
-    ) -> Result<Option<u32>>
+    fn line(&self, level: Option<u32>, number: usize, whole: &[Line], own: &[Line]) -> Result<Line>
         requires known { number < length self.now.walks.app.funcs }
         requires whole { (g : ℕ) → HasCall self.now.walks.app number g
             → IsLeastLine self.now None g (line_at whole.now g) }
@@ -219,7 +191,7 @@ impl<'a> Loops<'a> {
     }
 
     /// Those of all functions where their callers have raised the task.
-    pub fn whole_lines(&self) -> Result<Vec<Option<u32>>>
+    pub fn whole_lines(&self) -> Result<Vec<Line>>
         ensures { IfOk result (λ lines. AreLeastLines self.now None lines.items) }
     {
         let mut lines = no_lines(self.alloc, self.app.funcs.items().len())?;
@@ -231,7 +203,7 @@ impl<'a> Loops<'a> {
     }
 
     /// Those where functions raise it to a priority by what they hold themselves.
-    pub fn own_lines(&self, priority: u32, whole: &[Option<u32>]) -> Result<Vec<Option<u32>>>
+    pub fn own_lines(&self, priority: u32, whole: &[Line]) -> Result<Vec<Line>>
         requires { AreLeastLines self.now None whole.now }
         ensures { IfOk result (λ lines. AreLeastLines self.now (Some priority) lines.items) }
     {
@@ -246,12 +218,7 @@ impl<'a> Loops<'a> {
 
 /// The least source line of an item of a task that lies on a loop along which something weighs, in its turns or rounds,
 /// if there is one.
-pub fn turn_line(
-    walks: &Walks<'_>,
-    weights: &[BodyWeights],
-    kind: Kind,
-    task: usize,
-) -> Result<Option<u32>>
+pub fn turn_line(walks: &Walks, weights: &[BodyWeights], kind: Kind, task: usize) -> Result<Line>
     requires weights { AreWeights walks.now.app weights.now }
     requires of_all { IsOfAllLines kind }
     requires summed { IsSummed weights.now kind None }
@@ -264,17 +231,12 @@ pub fn turn_line(
     Ok(numbered_line(&lines, walks.body(task)))
 }
 
-/// The same in its raised sections for task `above`.
-pub fn section_line(
-    walks: &Walks<'_>,
-    weights: &[BodyWeights],
-    above: usize,
-    task: usize,
-) -> Result<Option<u32>>
+/// The same in its raised sections for task h.
+pub fn section_line(walks: &Walks, weights: &[BodyWeights], h: usize, task: usize) -> Result<Line>
     requires weights { AreWeights walks.now.app weights.now }
-    requires above { above < length walks.now.config.tasks }
+    requires above { h < length walks.now.config.tasks }
     requires inside { task < length walks.now.config.tasks }
-    ensures { IfOk result (IsLeastOf (HasSectionLoop walks.now.config walks.now.app weights.now above task)) }
+    ensures { IfOk result (IsLeastOf (HasSectionLoop walks.now.config walks.now.app weights.now h task)) }
 {
     let sums = walks.whole_sums(weights, Kind::Sections)?;
     let loops = Loops::of(&*walks, &*weights, Kind::Sections, &sums);
@@ -282,6 +244,79 @@ pub fn section_line(
     if walks.task(task).non {
         return Ok(numbered_line(&whole, walks.body(task)));
     }
-    let own = loops.own_lines(walks.priority(above), &whole)?;
+    let own = loops.own_lines(walks.priority(h), &whole)?;
     Ok(numbered_line(&own, walks.body(task)))
+}
+
+fn second_way(way: Option<usize>, count: usize) -> Option<usize>
+    requires { (j : ℕ) → way ≡ Some j → count + j < 18446744073709551616 }
+    ensures { result ≡ second_way count way }
+{
+    Some(count + way?)
+}
+
+/// The ways of a node among the second ones, behind `count` first ones.
+fn second_ways(ways: &[Ways], node: usize) -> Ways
+    requires inside { AreInside ways.now }
+    requires known { node < length ways.now }
+    requires few { length ways.now < 9223372036854775808 }
+    ensures { result ≡ second_ways (length ways.now) (ways_of ways.now node) }
+{
+    Ways {
+        next: second_way(ways[node].next, ways.len()),
+        jump: second_way(ways[node].jump, ways.len()),
+    }
+}
+
+/// Those of a first one: to second ones, if it weighs something.
+fn first_ways(ways: &[Ways], steps: &[u32], node: usize) -> Ways
+    requires inside { AreInside ways.now }
+    requires count { length steps.now ≡ length ways.now }
+    requires known { node < length ways.now }
+    requires few { length ways.now < 9223372036854775808 }
+    ensures { result ≡ first_ways ways.now steps.now node }
+{
+    if 0 < steps[node] {
+        second_ways(ways, node)
+    } else {
+        ways[node]
+    }
+}
+
+fn first_nodes(alloc: Global, ways: &[Ways], steps: &[u32]) -> Result<Vec<Ways>>
+    requires inside { AreInside ways.now }
+    requires count { length steps.now ≡ length ways.now }
+    requires few { length ways.now < 9223372036854775808 }
+    ensures { IfOk result (λ twice. AreFirst ways.now steps.now twice.items) }
+{
+    let mut twice = Vec::new(alloc);
+    for node in 0..ways.len() {
+        push(&mut twice, first_ways(ways, steps, node))?;
+    }
+    Ok(twice)
+}
+
+/// The first nodes and the second ones.
+pub fn doubled(alloc: Global, ways: &[Ways], steps: &[u32]) -> Result<Vec<Ways>>
+    requires inside { AreInside ways.now }
+    requires count { length steps.now ≡ length ways.now }
+    requires few { length ways.now < 9223372036854775808 }
+    ensures { IfOk result (λ twice. AreDoubled ways.now steps.now twice.items) }
+{
+    let mut twice = first_nodes(alloc, ways, steps)?;
+    for node in 0..ways.len() {
+        push(&mut twice, second_ways(ways, node))?;
+    }
+    Ok(twice)
+}
+
+/// Whether the first node of this number leads to the second one.
+pub fn is_on_loop(alloc: Global, twice: &[Ways], count: usize, node: usize) -> Result<bool>
+    requires inside { AreInside twice.now }
+    requires known { node < count }
+    requires both { length twice.now ≡ count + count }
+    ensures { IfOk result (λ on. Decides on (IsReachable twice.now node (count + node))) }
+{
+    let marks = reachable(alloc, twice, node)?;
+    Ok(is_marked(&marks, count + node))
 }

@@ -9,9 +9,9 @@ ghost use Rattle.run_windows.specs.Windows.{is_lower};
 ghost use Rattle.run_windows.specs.RunWindows.{IsLeastOf};
 ghost use Rattle.response_reasons.specs.Reasons.{HasRoundLoop, HasCountedLoop, HasActivatingLoop, HasMakingLoop};
 ghost use Rattle.response_reasons.specs.Reasons.{HasSectionMakingLoop, HasLevelLoop, IsUntoldLine};
-ghost use Rattle.response_reasons.specs.Reasons.{loop_reason, IsReasonFor, IsReasonIf};
+ghost use Rattle.response_reasons.specs.Reasons.{loop_reason, IsReasonIf};
 
-use crate::loops::{section_line, turn_line};
+use crate::loops::{Line, section_line, turn_line};
 use bound_rules::{BodyWeights, is_marked};
 use run_windows::level::{is_lower, lesser};
 use run_windows::{Costs, Untold, first_untold};
@@ -29,15 +29,8 @@ pub enum Reason {
     Load,
 }
 
-// ---- rounds
-
 // The least line of a loop in rounds of a task, or in its turns if it is not clean.
-fn round_line(
-    walks: &Walks<'_>,
-    clean: &[bool],
-    weights: &[BodyWeights],
-    k: usize,
-) -> Result<Option<u32>>
+fn round_line(walks: &Walks, clean: &[bool], weights: &[BodyWeights], k: usize) -> Result<Line>
     requires weights { AreWeights walks.now.app weights.now }
     requires inside { k < length walks.now.config.tasks }
     requires clean { Decides (get_or clean.now k false) (IsClean walks.now.app k) }
@@ -51,7 +44,7 @@ fn round_line(
 }
 
 // That of one along which each item counts.
-fn item_line(walks: &Walks<'_>, clean: &[bool], k: usize) -> Result<Option<u32>>
+fn item_line(walks: &Walks, clean: &[bool], k: usize) -> Result<Line>
     requires inside { k < length walks.now.config.tasks }
     requires clean { Decides (get_or clean.now k false) (IsClean walks.now.app k) }
     ensures { IfOk result (IsLeastOf (HasRoundLoop walks.now.config walks.now.app (item_weights walks.now.app) k)) }
@@ -60,12 +53,7 @@ fn item_line(walks: &Walks<'_>, clean: &[bool], k: usize) -> Result<Option<u32>>
     round_line(walks, clean, &weights, k)
 }
 
-fn counted_line(
-    walks: &Walks<'_>,
-    clean: &[bool],
-    counted: Counted,
-    k: usize,
-) -> Result<Option<u32>>
+fn counted_line(walks: &Walks, clean: &[bool], counted: Counted, k: usize) -> Result<Line>
     requires inside { k < length walks.now.config.tasks }
     requires clean { Decides (get_or clean.now k false) (IsClean walks.now.app k) }
     ensures { IfOk result (IsLeastOf (HasCountedLoop walks.now.config walks.now.app counted k)) }
@@ -75,7 +63,7 @@ fn counted_line(
 }
 
 // Of itself a task makes nothing by ActivateTask.
-fn activating_line(walks: &Walks<'_>, clean: &[bool], k: usize, j: usize) -> Result<Option<u32>>
+fn activating_line(walks: &Walks, clean: &[bool], k: usize, j: usize) -> Result<Line>
     requires small { j < 4294967296 }
     requires inside { k < length walks.now.config.tasks }
     requires clean { Decides (get_or clean.now k false) (IsClean walks.now.app k) }
@@ -88,7 +76,7 @@ fn activating_line(walks: &Walks<'_>, clean: &[bool], k: usize, j: usize) -> Res
     }
 }
 
-fn making_line(walks: &Walks<'_>, clean: &[bool], k: usize, j: usize) -> Result<Option<u32>>
+fn making_line(walks: &Walks, clean: &[bool], k: usize, j: usize) -> Result<Line>
     requires small { j < 4294967296 }
     requires inside { k < length walks.now.config.tasks }
     requires clean { Decides (get_or clean.now k false) (IsClean walks.now.app k) }
@@ -99,9 +87,7 @@ fn making_line(walks: &Walks<'_>, clean: &[bool], k: usize, j: usize) -> Result<
     Ok(lesser(activated, set))
 }
 
-// ---- sections
-
-fn section_item_line(walks: &Walks<'_>, h: usize, k: usize) -> Result<Option<u32>>
+fn section_item_line(walks: &Walks, h: usize, k: usize) -> Result<Line>
     requires above { h < length walks.now.config.tasks }
     requires inside { k < length walks.now.config.tasks }
     ensures { IfOk result (IsLeastOf (HasSectionLoop walks.now.config walks.now.app (item_weights walks.now.app) h k)) }
@@ -110,12 +96,7 @@ fn section_item_line(walks: &Walks<'_>, h: usize, k: usize) -> Result<Option<u32
     section_line(walks, &weights, h, k)
 }
 
-fn section_counted_line(
-    walks: &Walks<'_>,
-    counted: Counted,
-    h: usize,
-    k: usize,
-) -> Result<Option<u32>>
+fn section_counted_line(walks: &Walks, counted: Counted, h: usize, k: usize) -> Result<Line>
     requires above { h < length walks.now.config.tasks }
     requires inside { k < length walks.now.config.tasks }
     ensures { IfOk result (IsLeastOf
@@ -125,7 +106,7 @@ fn section_counted_line(
     section_line(walks, &weights, h, k)
 }
 
-fn section_making_line(walks: &Walks<'_>, h: usize, k: usize, j: usize) -> Result<Option<u32>>
+fn section_making_line(walks: &Walks, h: usize, k: usize, j: usize) -> Result<Line>
     requires small { j < 4294967296 }
     requires above { h < length walks.now.config.tasks }
     requires inside { k < length walks.now.config.tasks }
@@ -137,13 +118,7 @@ fn section_making_line(walks: &Walks<'_>, h: usize, k: usize, j: usize) -> Resul
 }
 
 // Nothing where j is lower.
-fn level_making_line(
-    walks: &Walks<'_>,
-    costs: &Costs,
-    h: usize,
-    k: usize,
-    j: usize,
-) -> Result<Option<u32>>
+fn level_making_line(walks: &Walks, costs: &Costs, h: usize, k: usize, j: usize) -> Result<Line>
     requires small { j < 4294967296 }
     requires above { h < length walks.now.config.tasks }
     requires inside { k < length walks.now.config.tasks }
@@ -157,7 +132,7 @@ fn level_making_line(
     }
 }
 
-fn level_line(walks: &Walks<'_>, costs: &Costs, h: usize, k: usize) -> Result<Option<u32>>
+fn level_line(walks: &Walks, costs: &Costs, h: usize, k: usize) -> Result<Line>
     requires few { length costs.now.tasks < 4294967296 }
     requires above { h < length walks.now.config.tasks }
     requires inside { k < length walks.now.config.tasks }
@@ -172,24 +147,16 @@ fn level_line(walks: &Walks<'_>, costs: &Costs, h: usize, k: usize) -> Result<Op
     Ok(least)
 }
 
-// ---- reasons
-
-fn untold_line(
-    walks: &Walks<'_>,
-    clean: &[bool],
-    costs: &Costs,
-    h: usize,
-    untold: Untold,
-) -> Result<Option<u32>>
+fn untold_line(walks: &Walks, clean: &[bool], costs: &Costs, h: usize, what: Untold) -> Result<Line>
     requires few { length costs.now.tasks < 4294967296 }
     requires above { h < length walks.now.config.tasks }
-    requires inside { IsInside (length walks.now.config.tasks) untold }
+    requires inside { IsInside (length walks.now.config.tasks) what }
     requires small { length walks.now.config.tasks < 4294967296 }
     requires clean { (t : ℕ) → t < length walks.now.config.tasks
         → Decides (get_or clean.now t false) (IsClean walks.now.app t) }
-    ensures { IfOk result (IsUntoldLine walks.now.config walks.now.app costs.now h untold) }
+    ensures { IfOk result (IsUntoldLine walks.now.config walks.now.app costs.now h what) }
 {
-    match untold {
+    match what {
         Untold::Rounds(k) => item_line(walks, clean, k),
         Untold::Makings(k, j) => making_line(walks, clean, k, j),
         Untold::Section(k) => section_item_line(walks, h, k),
@@ -197,7 +164,7 @@ fn untold_line(
     }
 }
 
-fn loop_reason(untold: Untold, line: Option<u32>) -> Reason
+fn loop_reason(untold: Untold, line: Line) -> Reason
     ensures { result ≡ loop_reason untold line }
 {
     match line {
@@ -209,26 +176,9 @@ fn loop_reason(untold: Untold, line: Option<u32>) -> Reason
     }
 }
 
-fn first_reason(walks: &Walks<'_>, clean: &[bool], costs: &Costs, h: usize) -> Result<Reason>
-    requires count { length costs.now.tasks ≡ length walks.now.config.tasks }
-    requires small { length walks.now.config.tasks < 4294967296 }
-    requires above { h < length walks.now.config.tasks }
-    requires clean { (t : ℕ) → t < length walks.now.config.tasks
-        → Decides (get_or clean.now t false) (IsClean walks.now.app t) }
-    ensures { IfOk result (IsReasonFor walks.now.config walks.now.app costs.now h (first_untold costs.now h)) }
-{
-    match first_untold(costs, h) {
-        Some(untold) => {
-            let line = untold_line(walks, clean, costs, h, untold)?;
-            Ok(loop_reason(untold, line))
-        }
-        None => Ok(Reason::Load),
-    }
-}
-
 /// Why a task has no number, where that is asked.
 pub fn reason_if(
-    walks: &Walks<'_>,
+    walks: &Walks,
     clean: &[bool],
     costs: &Costs,
     h: usize,
@@ -241,10 +191,12 @@ pub fn reason_if(
         → Decides (get_or clean.now t false) (IsClean walks.now.app t) }
     ensures { IfOk result (IsReasonIf walks.now.config walks.now.app costs.now h asked) }
 {
-    if asked {
-        let reason = first_reason(walks, clean, costs, h)?;
-        Ok(Some(reason))
-    } else {
-        Ok(None)
+    if !asked {
+        return Ok(None);
     }
+    let Some(untold) = first_untold(costs, h) else {
+        return Ok(Some(Reason::Load));
+    };
+    let line = untold_line(walks, clean, costs, h, untold)?;
+    Ok(Some(loop_reason(untold, line)))
 }

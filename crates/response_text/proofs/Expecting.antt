@@ -23,7 +23,7 @@ use Rattle.response_laws.specs.Expected.{line_of, IsMadeByAlarm, IsExpected, Exp
 use Rattle.response_laws.specs.SoundRuns.{IsLongestItem}
 use Rattle.response_laws.proofs.Expected.{expected_expiries_find_suspended}
 use Rattle.response_laws.proofs.Unmade.{uncalled}
-use Rattle.run_costs.specs.declared.record.RunCosts.{RunCosts}
+use Rattle.run_windows.specs.declared.costs.RunCosts.{RunCosts}
 use Rattle.run_costs.specs.RunRecord.{IsRunRecord}
 use Rattle.run_responses.proofs.Meeting.{some_said}
 use Rattle.run_responses.proofs.Sizes.{longest_is}

@@ -26,7 +26,7 @@ use Rattle.response_laws.specs.Ticking.{HasRoomForTicks}
 use Rattle.response_laws.proofs.ImageTicks.{keeps_pace, images_tick_in_time}
 use Rattle.response_laws.proofs.Undue.{arrivals_are_served}
 use Rattle.run_responses.proofs.Meeting.{some_said, images_meet_bounds}
-use Rattle.run_costs.specs.declared.record.RunCosts.{RunCosts}
+use Rattle.run_windows.specs.declared.costs.RunCosts.{RunCosts}
 use Rattle.run_costs.specs.RunRecord.{IsRunRecord}
 use Rattle.run_responses.proofs.Sizes.{longest_is, late_is}
 use Rattle.run_responses.proofs.TickTimes.{room_for}

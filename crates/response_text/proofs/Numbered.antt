@@ -2,11 +2,11 @@
 use Rattle.std.proofs.Common.{◌≡◌, ◌∙◌, ◌⊎◌, inl, inr, ℕ, ◌<◌, Bool, true, false, not, length, Option, Some, None, sym, ap, arith}
 use Rattle.std.specs.Prelude.{◌==◌}
 use Rattle.std.proofs.lemmas.Bool.{cases_eq, eq-eqb, true≢false, false≢true, and_parts}
-use Rattle.run_windows.specs.declared.window.Longest.{Longest}
+use Rattle.run_windows.specs.declared.costs.Longest.{Longest}
 use Rattle.run_windows.specs.declared.costs.Costs.{Costs}
 use Rattle.run_windows.specs.RunWindows.{run_starts, IsRunResponse}
 use Rattle.run_windows.specs.Longest.{number_of, IsFirstWindow, IsLongest}
-use Rattle.run_costs.specs.declared.record.RunCosts.{RunCosts}
+use Rattle.run_windows.specs.declared.costs.RunCosts.{RunCosts}
 use Rattle.response_text.specs.Parts.{has_parts, IsNumbered, BeginsInside}
 use Rattle.response_text.specs.TaskText.{same_number, shows_behind}
 use Rattle.response_text.proofs.Inside.{first_inside}

@@ -5,17 +5,17 @@ use Rattle.sloth_base.specs.declared.config.Config.{Config}
 use Rattle.sloth_base.specs.declared.app.App.{App}
 use Rattle.sloth_base.specs.Named.{declaration}
 use Rattle.run_windows.specs.declared.costs.Costs.{Costs}
-use Rattle.run_windows.specs.declared.window.Made.{Made}
-use Rattle.run_windows.specs.declared.window.Start.{Start}
-use Rattle.run_windows.specs.declared.window.Start.TheVariants as start
-use Rattle.run_windows.specs.declared.window.Longest.{Longest}
+use Rattle.run_windows.specs.declared.costs.Made.{Made}
+use Rattle.run_windows.specs.declared.costs.Start.{Start}
+use Rattle.run_windows.specs.declared.costs.Start.TheVariants as start
+use Rattle.run_windows.specs.declared.costs.Longest.{Longest}
 use Rattle.run_windows.specs.declared.responses.Parts.{Parts}
 use Rattle.run_windows.specs.Costs.{task, section, section_counts, reckoned, capped}
 use Rattle.run_windows.specs.Windows.{IsAtMost, numbers_of}
 use Rattle.run_windows.specs.RunWindows.{IsLeastOf, IsNumber, IsRunBound, start_at, start_counts, run_starts}
 use Rattle.run_windows.specs.Longest.{number_of, ComesBefore, IsFirstWindow, IsLongest, AreParts}
 use Rattle.run_windows.proofs.OneLeast.{one_least}
-use Rattle.run_costs.specs.declared.record.RunCosts.{RunCosts}
+use Rattle.run_windows.specs.declared.costs.RunCosts.{RunCosts}
 use Rattle.response_reasons.specs.EarlySections.{BeginsSection}
 use Rattle.response_text.specs.declared.part_lines.Name.{Name}
 use Rattle.response_text.specs.declared.part_lines.Name.TheVariants as name

@@ -7,7 +7,7 @@ use Rattle.sloth_source.specs.TaskNames.{task_named}
 use Rattle.load_text.specs.declared.load_line.Entry.{Entry}
 use Rattle.run_windows.specs.Costs.{comes}
 use Rattle.run_windows.specs.Longest.{number_of, IsLongest}
-use Rattle.run_costs.specs.declared.record.RunCosts.{RunCosts}
+use Rattle.run_windows.specs.declared.costs.RunCosts.{RunCosts}
 use Rattle.run_costs.proofs.OneCosts.{one_record}
 use Rattle.response_reasons.specs.declared.reasons.Reason.{Reason}
 use Rattle.response_reasons.proofs.OneReason.{one_if}

@@ -11,7 +11,7 @@ use Rattle.run_windows.proofs.OneLeast.{one_least}
 use Rattle.run_responses.specs.TickWindows.{IsTickNumber}
 use Rattle.run_windows.proofs.OneBound.{one_demand}
 use Rattle.run_responses.proofs.TickBounds.{one_tick_number}
-use Rattle.run_costs.specs.declared.record.RunCosts.{RunCosts}
+use Rattle.run_windows.specs.declared.costs.RunCosts.{RunCosts}
 use Rattle.run_costs.proofs.OneCosts.{one_record}
 use Rattle.response_text.specs.declared.task_text.Told.{Told}
 use Rattle.response_text.specs.declared.task_text.Response.{Response}

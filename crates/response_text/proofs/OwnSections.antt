@@ -4,12 +4,12 @@ use Rattle.std.specs.Prelude.{unwrap_or}
 use Rattle.sloth_base.specs.declared.config.Config.{Config}
 use Rattle.sloth_base.specs.declared.app.App.{App}
 use Rattle.load_text.specs.declared.load_line.Entry.{Entry}
-use Rattle.bound_rules.specs.declared.weights.BodyWeights.{BodyWeights}
+use Rattle.bound_rules.specs.declared.bound.BodyWeights.{BodyWeights}
 use Rattle.run_counts.specs.Counts.{AreCounts}
 use Rattle.run_windows.specs.Costs.{section}
 use Rattle.run_costs.specs.CostsOf.{IsTaskSection}
 use Rattle.run_costs.specs.RunRecord.{IsRunRecord}
-use Rattle.run_costs.specs.declared.record.RunCosts.{RunCosts}
+use Rattle.run_windows.specs.declared.costs.RunCosts.{RunCosts}
 use Rattle.bounds_text.proofs.OneLowerCounts.{same-weights}
 use Rattle.response_text.specs.PartNames.{AreOwnSections}
 

@@ -4,7 +4,7 @@ use Rattle.std.proofs.lemmas.List.{append_assoc, append-nil}
 use Rattle.std.proofs.Math.Numerals.{add-one}
 use Rattle.sloth_base.specs.declared.config.Config.{Config}
 use Rattle.run_windows.specs.declared.costs.Costs.{Costs}
-use Rattle.run_windows.specs.declared.window.Start.{Start}
+use Rattle.run_windows.specs.declared.costs.Start.{Start}
 use Rattle.run_windows.specs.declared.responses.Parts.{Parts}
 use Rattle.response_text.specs.declared.part_lines.Bounded.{Bounded}
 use Rattle.response_text.specs.Parts.{round_line, round_lines, tick_line, tick_lines}

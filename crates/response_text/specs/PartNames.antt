@@ -9,20 +9,20 @@ use Rattle.load_text.specs.Loads.{work}
 use Rattle.code_lengths.specs.LongestPaths.{boot_path, tick_path}
 use Rattle.sim_induction.specs.Events.{enter_counts}
 use Rattle.sim_induction.specs.Items.{AreLengths}
-use Rattle.bound_rules.specs.declared.weights.BodyWeights.{BodyWeights}
+use Rattle.bound_rules.specs.declared.bound.BodyWeights.{BodyWeights}
 use Rattle.bound_rules.specs.Weights.{no_weights}
 use Rattle.walk_sums.specs.declared.sections.Sum.{Sum}
 use Rattle.walk_sums.specs.declared.sections.Sum.TheVariants as sum
-use Rattle.walk_sums.specs.declared.tasks.RoundSums.{RoundSums}
+use Rattle.walk_sums.specs.declared.sections.RoundSums.{RoundSums}
 use Rattle.walk_sums.specs.Rounds.{IsClean}
 use Rattle.walk_sums.specs.Weights.{AreWeights}
 use Rattle.run_windows.specs.declared.costs.Costs.{Costs}
-use Rattle.run_windows.specs.declared.window.Start.{Start}
-use Rattle.run_windows.specs.declared.window.Start.TheVariants as start
+use Rattle.run_windows.specs.declared.costs.Start.{Start}
+use Rattle.run_windows.specs.declared.costs.Start.TheVariants as start
 use Rattle.run_windows.specs.Costs.{section, section_counts}
 use Rattle.run_windows.specs.RunWindows.{IsLeastOf}
 use Rattle.run_counts.specs.Counts.{AreCounts}
-use Rattle.run_costs.specs.declared.record.RunCosts.{RunCosts}
+use Rattle.run_windows.specs.declared.costs.RunCosts.{RunCosts}
 use Rattle.run_costs.specs.Tables.{no_sums}
 use Rattle.run_costs.specs.CostsOf.{AreEach, IsTaskSection}
 use Rattle.run_costs.specs.Makings.{AreRoundSums}

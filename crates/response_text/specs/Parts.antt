@@ -5,16 +5,16 @@ use Rattle.sloth_base.specs.declared.app.App.{App}
 use Rattle.sloth_base.specs.Named.{declaration, counter_declaration}
 use Rattle.run_windows.specs.declared.costs.CounterCosts.{CounterCosts}
 use Rattle.run_windows.specs.declared.costs.Costs.{Costs}
-use Rattle.run_windows.specs.declared.window.Start.{Start}
-use Rattle.run_windows.specs.declared.window.Start.TheVariants as start
-use Rattle.run_windows.specs.declared.window.Longest.{Longest}
+use Rattle.run_windows.specs.declared.costs.Start.{Start}
+use Rattle.run_windows.specs.declared.costs.Start.TheVariants as start
+use Rattle.run_windows.specs.declared.costs.Longest.{Longest}
 use Rattle.run_windows.specs.declared.responses.Parts.{Parts}
 use Rattle.run_windows.specs.Arrivals.{arrivals}
 use Rattle.run_windows.specs.Costs.{task}
 use Rattle.run_windows.specs.Windows.{numbers_of, is_round}
 use Rattle.run_windows.specs.RunWindows.{IsNumber}
 use Rattle.run_windows.specs.Longest.{AreParts}
-use Rattle.run_costs.specs.declared.record.RunCosts.{RunCosts}
+use Rattle.run_windows.specs.declared.costs.RunCosts.{RunCosts}
 use Rattle.response_reasons.specs.Calls.{StartsInside}
 use Rattle.response_text.specs.Lines.{number_words}
 use Rattle.response_text.specs.declared.part_lines.Name.{Name}

@@ -24,7 +24,7 @@ use Rattle.response_laws.specs.Admissions.{FindSuspended}
 use Rattle.response_laws.specs.Expected.{ExpiriesFindSuspended}
 use Rattle.response_laws.specs.Ticks.{activates}
 use Rattle.response_laws.specs.Ticking.{TicksWithin, ArrivalsFindUndue}
-use Rattle.run_costs.specs.declared.record.RunCosts.{RunCosts}
+use Rattle.run_windows.specs.declared.costs.RunCosts.{RunCosts}
 use Rattle.run_costs.specs.RunRecord.{IsRunRecord}
 use Rattle.run_responses.specs.Meeting.{AreCutTasks}
 use Rattle.response_text.specs.declared.task_text.Told.{Told}

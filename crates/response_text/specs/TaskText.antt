@@ -6,10 +6,10 @@ use Rattle.sloth_source.specs.Texts.{AreAccepted}
 use Rattle.sloth_source.specs.TaskNames.{task_named}
 use Rattle.load_text.specs.declared.load_line.Entry.{Entry}
 use Rattle.load_text.specs.Loads.{deadline}
-use Rattle.run_windows.specs.declared.window.Longest.{Longest}
+use Rattle.run_windows.specs.declared.costs.Longest.{Longest}
 use Rattle.run_windows.specs.Costs.{comes}
 use Rattle.run_windows.specs.Longest.{number_of, IsLongest}
-use Rattle.run_costs.specs.declared.record.RunCosts.{RunCosts}
+use Rattle.run_windows.specs.declared.costs.RunCosts.{RunCosts}
 use Rattle.run_costs.specs.RunRecord.{IsRunRecord}
 use Rattle.response_text.specs.declared.task_text.Told.{Told}
 use Rattle.response_text.specs.declared.task_text.Response.{Response}

@@ -16,7 +16,6 @@
 
 pub mod laws;
 pub mod lines;
-mod lossless;
 mod made;
 pub mod part_lines;
 mod part_names;

@@ -2,9 +2,12 @@
 ghost use Rattle.std.specs.Prelude.{◌≡◌, ◌<◌, ◌≤◌, ◌++◌, length, decimal, OnOk, IfOk};
 ghost use Rattle.sloth_base.specs.ConfigRange.{InRange};
 ghost use Rattle.load_text.specs.Loads.{deadline};
-ghost use Rattle.response_text.specs.Lines.{number_words, is_never, made_words, response_words, is_met, is_met_behind, verdict_word, deadline_words, is_open, loop_words, reason_words, reason_at, lossless_words, response_at, response_line, response_lines, tick_words, counter_row, counter_rows, demand_line, has_open};
+ghost use Rattle.response_text.specs.Lines.{number_words, is_never, made_words, response_words, is_met, is_met_behind};
+ghost use Rattle.response_text.specs.Lines.{verdict_word, deadline_words, is_open, loop_words, reason_words};
+ghost use Rattle.response_text.specs.Lines.{reason_at, lossless_words, response_at, response_line, response_lines};
+ghost use Rattle.response_text.specs.Lines.{tick_words, counter_row, counter_rows, demand_line, has_open};
 
-use crate::lossless::{is_lossless, is_within, is_within_limit};
+use crate::made::{is_lossless, is_within, is_within_limit};
 use crate::part_lines::task_name;
 use crate::task_text::Response;
 use itoa::Buffer;
@@ -194,7 +197,8 @@ pub fn push_line(
 ) -> Result<()>
     requires in_range { InRange config.now }
     requires there { task < length config.now.tasks }
-    ensures { OnOk result (text.new.items ≡ text.old.items ++ response_line config.now app.now load.now task told.0 told.1) }
+    ensures { OnOk result
+        (text.new.items ≡ text.old.items ++ response_line config.now app.now load.now task told.0 told.1) }
 {
     text.extend_from_slice(config.tasks.items()[task as usize].name.bytes())?;
     let (response, reason) = told;
@@ -217,18 +221,14 @@ pub fn response_lines(
     reasons: &[Option<Reason>],
 ) -> Result<Vec<u8>>
     requires in_range { InRange config.now }
-    ensures { IfOk result (λ text. text.items ≡ response_lines config.now app.now load.now responses.now reasons.now (length config.now.tasks)) }
+    ensures { IfOk result
+        (λ text. text.items ≡ response_lines config.now app.now load.now responses.now reasons.now
+        (length config.now.tasks)) }
 {
     let mut text = Vec::new(alloc);
     for task in 0..config.tasks.items().len() as u32 {
-        push_line(
-            &mut text,
-            config,
-            app,
-            load,
-            task,
-            (response_at(responses, task), reason_at(reasons, task)),
-        )?;
+        let told = (response_at(responses, task), reason_at(reasons, task));
+        push_line(&mut text, config, app, load, task, told)?;
     }
     Ok(text)
 }
@@ -283,7 +283,8 @@ pub fn push_counter_rows(
     tick: Option<u32>,
 ) -> Result<()>
     requires { InRange config.now }
-    ensures { OnOk result (text.new.items ≡ text.old.items ++ counter_rows config.now load.now tick (length config.now.counters)) }
+    ensures { OnOk result
+        (text.new.items ≡ text.old.items ++ counter_rows config.now load.now tick (length config.now.counters)) }
 {
     for counter in 0..config.counters.items().len() as u32 {
         push_counter_row(text, config, load, tick, counter)?;

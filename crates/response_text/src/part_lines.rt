@@ -76,8 +76,7 @@ pub fn push_some(
 {
     push_named(text, name, word)?;
     push_sum(text, Some(number))?;
-    push_last(text, config, cost, is)?;
-    Ok(())
+    push_last(text, config, cost, is)
 }
 
 /// The same, and no line of none.

@@ -14,14 +14,14 @@ ghost use Rattle.response_text.specs.PartNames.{AreFrontNames};
 
 use crate::part_lines::{Bounded, FrontNames, Name, PartNames};
 use bound_rules::{BodyWeights, number_at, weights_at};
-use bounds_text::stretches::enter_counts;
+use bounds_text::latency::enter_counts;
 use code_lengths::{boot_path, tick_path};
 use load_text::{Entry, work_of};
 use response_reasons::{greatest_section_line, service_line};
-use run_costs::{RunCosts, round_sums};
+use run_costs::round_sums;
 use run_counts::weights_by;
 use run_windows::level::{lesser, section, section_counts};
-use run_windows::{Costs, Start};
+use run_windows::{Costs, RunCosts, Start};
 use sim_induction::{ItemLengths, lengths};
 use sloth_base::{App, Config, Func, List, Result};
 use text_pieces::push;
@@ -170,7 +170,7 @@ fn bounded_task(load: &[Entry], sums: &[RoundSums], task: usize) -> Bounded
     bounded_by(work_of(load, task as u8), sums[task])
 }
 
-fn bounded(walks: &Walks<'_>, load: &[Entry], weights: &[BodyWeights]) -> Result<Vec<Bounded>>
+fn bounded(walks: &Walks, load: &[Entry], weights: &[BodyWeights]) -> Result<Vec<Bounded>>
     requires { AreWeights walks.now.app weights.now }
     ensures { IfOk result (λ all. AreBounded walks.now.config walks.now.app load.now weights.now all.items) }
 {
@@ -185,7 +185,7 @@ fn bounded(walks: &Walks<'_>, load: &[Entry], weights: &[BodyWeights]) -> Result
 }
 
 /// What the parts of all windows are, by the costs of the task code.
-pub fn part_names(walks: &Walks<'_>, load: &[Entry], found: &RunCosts) -> Result<PartNames>
+pub fn part_names(walks: &Walks, load: &[Entry], found: &RunCosts) -> Result<PartNames>
     ensures { IfOk result (ArePartNames walks.now.config walks.now.app load.now found.now) }
 {
     let config = walks.config();
@@ -207,7 +207,7 @@ pub fn part_names(walks: &Walks<'_>, load: &[Entry], found: &RunCosts) -> Result
 
 // The section of task k for h: where a greatest one begins, if the work of the task does not bound it.
 fn section_name(
-    walks: &Walks<'_>,
+    walks: &Walks,
     weights: &[BodyWeights],
     costs: &Costs,
     h: usize,
@@ -235,7 +235,7 @@ fn section_name(
 
 // That of a start, if it is a section.
 fn begun_name(
-    walks: &Walks<'_>,
+    walks: &Walks,
     weights: &[BodyWeights],
     costs: &Costs,
     h: usize,
@@ -256,7 +256,7 @@ fn begun_name(
 
 /// What the parts in front of a window of a start are.
 pub fn front_names(
-    walks: &Walks<'_>,
+    walks: &Walks,
     names: &PartNames,
     costs: &Costs,
     h: usize,

@@ -4,9 +4,9 @@ ghost use Rattle.run_windows.specs.Settling.{TakeCounts};
 ghost use Rattle.walk_sums.specs.Weights.{AreWeights};
 ghost use Rattle.response_reasons.specs.Calls.{StartsInside};
 ghost use Rattle.response_text.specs.PartNames.{AreOwnSections};
-ghost use Rattle.response_text.specs.Parts.{front_line, work_name, bounded_at, start_word, start_name};
+ghost use Rattle.response_text.specs.Parts.{front_line, work_name, start_word, start_name};
 ghost use Rattle.response_text.specs.Parts.{section_of, front_lines, begun_line, round_line, round_lines};
-ghost use Rattle.response_text.specs.Parts.{counter_costs, tick_line, tick_lines, part_lines, has_parts, IsNumbered};
+ghost use Rattle.response_text.specs.Parts.{tick_line, tick_lines, part_lines, has_parts, IsNumbered};
 ghost use Rattle.response_text.specs.Parts.{BeginsInside, IsPartText};
 
 use crate::part_lines::{
@@ -14,10 +14,9 @@ use crate::part_lines::{
     push_some, task_name, wide,
 };
 use crate::part_names::front_names;
-use run_costs::RunCosts;
 use run_windows::level::is_round;
 use run_windows::rounds::{arrivals, number_of};
-use run_windows::{Costs, CounterCosts, Longest, Parts, Start, task, window_parts};
+use run_windows::{Costs, CounterCosts, Longest, Parts, RunCosts, Start, task, window_parts};
 use sloth_base::{Config, Result};
 use walk_sums::Walks;
 
@@ -48,18 +47,12 @@ fn start_name(config: &Config, start: Start) -> &[u8]
 }
 
 // So many counts in front of all; no line of none.
-fn push_front(
-    text: &mut Vec<u8>,
-    config: &Config,
-    word: &[u8],
-    counts: u64,
-    name: Name,
-) -> Result<()>
-    ensures { OnOk result (text.new.items ≡ text.old.items ++ front_line config.now word.now counts name) }
+fn push_front(text: &mut Vec<u8>, config: &Config, word: &[u8], counts: u64, is: Name) -> Result<()>
+    ensures { OnOk result (text.new.items ≡ text.old.items ++ front_line config.now word.now counts is) }
 {
     if counts != 0 {
         text.extend_from_slice(word)?;
-        push_last(text, config, Some(counts), name)?;
+        push_last(text, config, Some(counts), is)?;
     }
     Ok(())
 }
@@ -84,47 +77,18 @@ fn push_fronts(
 ) -> Result<()>
     ensures { OnOk result (text.new.items ≡ text.old.items ++ front_lines config.now start parts.now names) }
 {
-    push_front(
-        text,
-        config,
-        b"stretch",
-        u64::from(parts.stretch),
-        names.stretch,
-    )?;
-    push_front(
-        text,
-        config,
-        b"service",
-        u64::from(parts.service),
-        names.service,
-    )?;
+    let (stretch, service) = (u64::from(parts.stretch), u64::from(parts.service));
+    push_front(text, config, b"stretch", stretch, names.stretch)?;
+    push_front(text, config, b"service", service, names.service)?;
     push_front(text, config, b"item", u64::from(parts.item), names.item)?;
-    push_front(
-        text,
-        config,
-        b"section",
-        section_of(start, parts),
-        names.section,
-    )?;
-    Ok(())
+    let section = section_of(start, parts);
+    push_front(text, config, b"section", section, names.section)
 }
 
 fn work_name(bounded: bool) -> Name
     ensures { result ≡ work_name bounded }
 {
     if bounded { Name::Work } else { Name::Nothing }
-}
-
-fn bounded_at(works: &[Bounded], t: usize) -> Bounded
-    ensures { result ≡ bounded_at works.now t }
-{
-    match works.get(t) {
-        Some(bounded) => *bounded,
-        None => Bounded {
-            first: false,
-            next: false,
-        },
-    }
 }
 
 // The round of a task that is under way as the window begins.
@@ -140,15 +104,8 @@ fn push_begun(
 {
     if is_round(start, t) {
         let is = work_name(bounded.first || bounded.next);
-        push_some(
-            text,
-            config,
-            task_name(config, t),
-            b" first",
-            1,
-            Some(counts),
-            is,
-        )?;
+        let name = task_name(config, t);
+        push_some(text, config, name, b" first", 1, Some(counts), is)?;
     }
     Ok(())
 }
@@ -166,32 +123,20 @@ fn push_round(
     ensures { OnOk result (text.new.items ≡ text.old.items ++
         round_line config.now costs.now works.now start parts.now t) }
 {
-    let bounded = bounded_at(works, t);
+    let none = Bounded {
+        first: false,
+        next: false,
+    };
+    let bounded = works.get(t).copied().unwrap_or(none);
     push_begun(text, config, start, parts.section, bounded, t)?;
     let name = task_name(config, t);
     let made = number_of(parts.numbers.items(), t);
     let costs = task(costs, t);
     let word: &[u8] = if costs.is_cut { b" first" } else { b"" };
     let (first, next) = (work_name(bounded.first), work_name(bounded.next));
-    push_part(
-        text,
-        config,
-        name,
-        word,
-        made.activations,
-        wide(costs.first),
-        first,
-    )?;
-    push_part(
-        text,
-        config,
-        name,
-        b" next",
-        made.settings,
-        wide(costs.next),
-        next,
-    )?;
-    Ok(())
+    let (firsts, nexts) = (wide(costs.first), wide(costs.next));
+    push_part(text, config, name, word, made.activations, firsts, first)?;
+    push_part(text, config, name, b" next", made.settings, nexts, next)
 }
 
 fn push_rounds(
@@ -211,41 +156,19 @@ fn push_rounds(
     Ok(())
 }
 
-fn counter_costs(costs: &Costs, counter: usize) -> CounterCosts
-    ensures { result ≡ counter_costs costs.now counter }
-{
-    match costs.counters.items().get(counter) {
-        Some(counter) => *counter,
-        None => CounterCosts {
-            distance: None,
-            tick: 0,
-        },
-    }
-}
-
 // The ticks of a counter within so many counts.
-fn push_tick(
-    text: &mut Vec<u8>,
-    config: &Config,
-    costs: &Costs,
-    counts: u64,
-    c: usize,
-) -> Result<()>
-    ensures { OnOk result (text.new.items ≡ text.old.items ++ tick_line config.now costs.now counts c) }
+fn push_tick(text: &mut Vec<u8>, config: &Config, costs: &Costs, span: u64, c: usize) -> Result<()>
+    ensures { OnOk result (text.new.items ≡ text.old.items ++ tick_line config.now costs.now span c) }
 {
-    let counter = counter_costs(costs, c);
-    let ticks = arrivals(counts, counter.distance);
+    let none = CounterCosts {
+        distance: None,
+        tick: 0,
+    };
+    let counter = costs.counters.items().get(c).copied().unwrap_or(none);
+    let ticks = arrivals(span, counter.distance);
     let tick = Some(u64::from(counter.tick));
-    push_part(
-        text,
-        config,
-        counter_name(config, c),
-        b"",
-        ticks,
-        tick,
-        Name::Nothing,
-    )?;
-    Ok(())
+    let name = counter_name(config, c);
+    push_part(text, config, name, b"", ticks, tick, Name::Nothing)
 }
 
 fn push_ticks(text: &mut Vec<u8>, config: &Config, costs: &Costs, counts: u64) -> Result<()>
@@ -275,13 +198,12 @@ fn push_parts(
     push_named(text, start_name(config, start), b"\n")?;
     push_fronts(text, config, start, parts, fronts)?;
     push_rounds(text, config, costs, works, start, parts)?;
-    push_ticks(text, config, costs, parts.counts)?;
-    Ok(())
+    push_ticks(text, config, costs, parts.counts)
 }
 
 // Those of a window with something in it.
 fn window_text(
-    walks: &Walks<'_>,
+    walks: &Walks,
     found: &RunCosts,
     names: &PartNames,
     h: usize,
@@ -297,7 +219,7 @@ fn window_text(
         (Some window) text.items) }
 {
     let (config, costs, start) = (walks.config(), &found.costs, window.start);
-    let parts = window_parts(walks.alloc(), found.longest, found.late, costs, h, window)?;
+    let parts = window_parts(walks.alloc(), found, h, window)?;
     let fronts = front_names(walks, names, costs, h, start)?;
     let works = names.bounded.items();
     let mut text = Vec::new(walks.alloc());
@@ -317,7 +239,7 @@ pub fn has_parts(window: Option<Longest>) -> bool
 
 /// The lines of the parts of a task's longest window, where they are shown.
 pub fn part_text(
-    walks: &Walks<'_>,
+    walks: &Walks,
     found: &RunCosts,
     names: &PartNames,
     h: usize,

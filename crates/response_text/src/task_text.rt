@@ -12,7 +12,8 @@ ghost use Rattle.walk_sums.specs.Weights.{AreWeights};
 ghost use Rattle.response_text.specs.Inputs.{InputsErrorIs};
 ghost use Rattle.sloth_source.specs.TaskNames.{task_named};
 ghost use Rattle.response_text.specs.PartNames.{AreOwnSections};
-ghost use Rattle.response_text.specs.TaskText.{same_number, shows_behind, AreBothParts, task_lines, HasParts, HasPartsOf, HasLoadParts, IsTaskText};
+ghost use Rattle.response_text.specs.TaskText.{same_number, shows_behind, AreBothParts, task_lines, HasParts};
+ghost use Rattle.response_text.specs.TaskText.{HasPartsOf, HasLoadParts, IsTaskText};
 
 use crate::lines::{is_open, push_line};
 use crate::part_lines::PartNames;
@@ -22,10 +23,10 @@ use crate::text::{load_of, reason, response_of};
 use call_graph::Ranks;
 use load_text::{Entry, deadline_of};
 use response_reasons::Reason;
-use run_costs::{RunCosts, run_costs};
+use run_costs::run_costs;
+use run_windows::costs::number_of;
 use run_windows::level::comes;
-use run_windows::window::number_of;
-use run_windows::{Longest, longest_window};
+use run_windows::{Longest, RunCosts, longest_window};
 use sloth_base::{App, BuildError, Config, List, Result};
 use sloth_source::{read_checked, task_named};
 use std::alloc::Global;
@@ -53,7 +54,7 @@ fn shows_behind(anywhere: Option<Longest>, behind: Option<Longest>) -> bool
 
 // The parts of both windows.
 fn both_parts(
-    walks: &Walks<'_>,
+    walks: &Walks,
     found: &RunCosts,
     names: &PartNames,
     task: usize,
@@ -101,7 +102,7 @@ fn task_lines(
 }
 
 // Those of what is computed from costs.
-fn told_by(walks: &Walks<'_>, load: &[Entry], found: &RunCosts, task: u32) -> Result<Told>
+fn told_by(walks: &Walks, load: &[Entry], found: &RunCosts, task: u32) -> Result<Told>
     requires there { task < length walks.now.config.tasks }
     requires costs { IsRunRecord walks.now.config walks.now.app load.now found.now }
     ensures { IfOk result (λ told. HasParts walks.now.config walks.now.app load.now task told) }
@@ -109,9 +110,9 @@ fn told_by(walks: &Walks<'_>, load: &[Entry], found: &RunCosts, task: u32) -> Re
     let alloc = walks.alloc();
     let config = walks.config();
     let app = walks.app();
-    let (longest, late, number) = (found.longest, found.late, task as usize);
-    let anywhere = longest_window(alloc, longest, late, &found.costs, number, true)?;
-    let behind = longest_window(alloc, longest, late, &found.costs, number, false)?;
+    let number = task as usize;
+    let anywhere = longest_window(alloc, found, number, true)?;
+    let behind = longest_window(alloc, found, number, false)?;
     let names = part_names(walks, load, found)?;
     let parts = both_parts(walks, found, &names, number, anywhere, behind)?;
     let is_made = comes(&found.costs, number);

@@ -11,7 +11,8 @@ ghost use Rattle.run_windows.specs.Settling.{TakeCounts};
 ghost use Rattle.response_text.specs.Inputs.{InputsErrorIs, IsLoadOf};
 ghost use Rattle.run_costs.specs.RunRecord.{IsRunRecord};
 ghost use Rattle.response_text.specs.TaskText.{response_of};
-ghost use Rattle.response_text.specs.ResponseText.{IsTaskResponse, AreResponses, told_of, HasResponses, HasLoadResponses, IsResponseText};
+ghost use Rattle.response_text.specs.ResponseText.{IsTaskResponse, AreResponses, told_of, HasResponses};
+ghost use Rattle.response_text.specs.ResponseText.{HasLoadResponses, IsResponseText};
 ghost use Rattle.trace_text.specs.ArrivalsText.{owners_read};
 ghost use Rattle.walk_sums.specs.Rounds.{IsClean};
 ghost use Rattle.response_text.specs.Reasons.{is_numberless, IsReason, AreReasons};
@@ -22,11 +23,11 @@ use crate::task_text::Response;
 use call_graph::Ranks;
 use load_text::{Entry, read_load};
 use response_reasons::{Reason, reason_if};
-use run_costs::{RunCosts, run_costs};
+use run_costs::run_costs;
 use run_responses::tick_number;
+use run_windows::costs::number_of;
 use run_windows::level::comes;
-use run_windows::window::number_of;
-use run_windows::{Costs, Longest, demand, longest_window};
+use run_windows::{Costs, Longest, RunCosts, demand, longest_window};
 use sloth_base::{App, BuildError, Config, List, Result, counter_names, task_names};
 use sloth_source::read_checked;
 use std::alloc::Global;
@@ -46,25 +47,26 @@ pub fn response_of(comes: bool, anywhere: Option<Longest>, behind: Option<Longes
 }
 
 // The response of a task.
-fn response(alloc: Global, longest: u32, late: u32, costs: &Costs, task: usize) -> Result<Response>
-    requires take { TakeCounts costs.now }
-    requires there { task < length costs.now.tasks }
-    ensures { IfOk result (IsTaskResponse longest late costs.now task) }
+fn response(alloc: Global, run: &RunCosts, task: usize) -> Result<Response>
+    requires take { TakeCounts run.now.costs }
+    requires there { task < length run.now.costs.tasks }
+    ensures { IfOk result (IsTaskResponse run.now.longest run.now.late run.now.costs task) }
 {
-    let anywhere = longest_window(alloc, longest, late, costs, task, true)?;
-    let behind = longest_window(alloc, longest, late, costs, task, false)?;
-    let is_made = comes(costs, task);
+    let anywhere = longest_window(alloc, run, task, true)?;
+    let behind = longest_window(alloc, run, task, false)?;
+    let is_made = comes(&run.costs, task);
     Ok(response_of(is_made, anywhere, behind))
 }
 
-/// Those of all tasks, by costs that runs keep, with the longest item and the longest stretch.
-pub fn responses(alloc: Global, longest: u32, late: u32, costs: &Costs) -> Result<Vec<Response>>
-    requires { TakeCounts costs.now }
-    ensures { IfOk result (λ responses. AreResponses longest late costs.now (length costs.now.tasks) responses.items) }
+/// Those of all tasks, by costs that runs keep.
+pub fn responses(alloc: Global, run: &RunCosts) -> Result<Vec<Response>>
+    requires { TakeCounts run.now.costs }
+    ensures { IfOk result (λ responses. AreResponses run.now.longest run.now.late run.now.costs
+        (length run.now.costs.tasks) responses.items) }
 {
     let mut responses = Vec::new(alloc);
-    for task in 0..costs.tasks.items().len() {
-        let response = response(alloc, longest, late, costs, task)?;
+    for task in 0..run.costs.tasks.items().len() {
+        let response = response(alloc, run, task)?;
         push(&mut responses, response)?;
     }
     Ok(responses)
@@ -81,7 +83,8 @@ fn told_of(
     numbers: (Option<u32>, Option<u32>),
 ) -> Result<Told>
     requires in_range { InRange config.now }
-    ensures { IfOk result (λ told. told ≡ told_of config.now app.now load.now responses.now reasons.now numbers.0 numbers.1) }
+    ensures { IfOk result
+        (λ told. told ≡ told_of config.now app.now load.now responses.now reasons.now numbers.0 numbers.1) }
 {
     let (tick, demand) = numbers;
     let mut text = response_lines(alloc, config, app, load, responses, reasons)?;
@@ -94,7 +97,7 @@ fn told_of(
 }
 
 // Those of what is computed from costs.
-fn told_by(walks: &Walks<'_>, load: &[Entry], found: &RunCosts) -> Result<Told>
+fn told_by(walks: &Walks, load: &[Entry], found: &RunCosts) -> Result<Told>
     requires in_load { IsLoad (owners_in walks.now.config) load.now }
     requires costs { IsRunRecord walks.now.config walks.now.app load.now found.now }
     ensures { IfOk result (λ told. HasResponses walks.now.config walks.now.app load.now told) }
@@ -102,19 +105,12 @@ fn told_by(walks: &Walks<'_>, load: &[Entry], found: &RunCosts) -> Result<Told>
     let alloc = walks.alloc();
     let config = walks.config();
     let app = walks.app();
-    let responses = responses(alloc, found.longest, found.late, &found.costs)?;
+    let responses = responses(alloc, found)?;
     let reasons = reasons(walks, &found.costs, &responses)?;
-    let tick = tick_number(alloc, found.longest, found.late, &found.costs)?;
+    let tick = tick_number(alloc, found)?;
     let demand = demand(alloc, &found.costs)?;
-    told_of(
-        alloc,
-        config,
-        app,
-        load,
-        &responses,
-        &reasons,
-        (tick, demand),
-    )
+    let numbers = (tick, demand);
+    told_of(alloc, config, app, load, &responses, &reasons, numbers)
 }
 
 // Those of task code that keeps all rules.
@@ -156,7 +152,9 @@ fn text_for(
     requires belong { RanksOf verified.now.app ranks.now }
     requires short { length text.now < 4294967295 }
     ensures told { IfOk result (λ told. HasLoadResponses verified.now.config verified.now.app text.now told) }
-    ensures refused { IfErr result (λ error. ErrorIs (LoadFault (task_names verified.now.config) (counter_names verified.now.config) text.now) error) }
+    ensures refused { IfErr result
+        (λ error. ErrorIs (LoadFault (task_names verified.now.config) (counter_names verified.now.config) text.now)
+        error) }
 {
     let load = load_of(alloc, verified.config(), text)?;
     text_of(alloc, verified, ranks, &load)
@@ -180,8 +178,10 @@ pub fn response_text(alloc: Global, oil: &[u8], src: &[u8], load: &[u8]) -> Resu
 pub fn load_of(alloc: Global, config: &Config, text: &[u8]) -> Result<Vec<Entry>, BuildError>
     requires { length text.now < 4294967295 }
     ensures load { IfOk result (λ load. IsLoadOf config.now text.now load.items) }
-    ensures in_range { IfOk result (λ load. IsLoad (owners_read (task_names config.now) (counter_names config.now)) load.items) }
-    ensures refused { IfErr result (λ error. ErrorIs (LoadFault (task_names config.now) (counter_names config.now) text.now) error) }
+    ensures in_range { IfOk result
+        (λ load. IsLoad (owners_read (task_names config.now) (counter_names config.now)) load.items) }
+    ensures refused { IfErr result
+        (λ error. ErrorIs (LoadFault (task_names config.now) (counter_names config.now) text.now) error) }
 {
     let tasks = task_names(alloc, config)?;
     let counters = counter_names(alloc, config)?;
@@ -199,7 +199,7 @@ fn is_numberless(response: Response) -> bool
 
 /// Why a task has no number, where it has none.
 pub fn reason(
-    walks: &Walks<'_>,
+    walks: &Walks,
     clean: &[bool],
     costs: &Costs,
     h: usize,
@@ -208,21 +208,20 @@ pub fn reason(
     requires count { length costs.now.tasks ≡ length walks.now.config.tasks }
     requires small { length walks.now.config.tasks < 4294967296 }
     requires above { h < length walks.now.config.tasks }
-    requires clean { (t : ℕ) → t < length walks.now.config.tasks → Decides (get_or clean.now t false) (IsClean walks.now.app t) }
+    requires clean { (t : ℕ) → t < length walks.now.config.tasks
+        → Decides (get_or clean.now t false) (IsClean walks.now.app t) }
     ensures { IfOk result (IsReason walks.now.config walks.now.app costs.now h response) }
 {
     reason_if(walks, clean, costs, h, is_numberless(response))
 }
 
 /// The reasons of all tasks.
-pub fn reasons(
-    walks: &Walks<'_>,
-    costs: &Costs,
-    responses: &[Response],
-) -> Result<Vec<Option<Reason>>>
+pub fn reasons(walks: &Walks, costs: &Costs, responses: &[Response]) -> Result<Vec<Option<Reason>>>
     requires count { length costs.now.tasks ≡ length walks.now.config.tasks }
     requires small { length walks.now.config.tasks < 4294967296 }
-    ensures { IfOk result (λ reasons. AreReasons walks.now.config walks.now.app costs.now responses.now (length walks.now.config.tasks) reasons.items) }
+    ensures { IfOk result
+        (λ reasons. AreReasons walks.now.config walks.now.app costs.now responses.now
+        (length walks.now.config.tasks) reasons.items) }
 {
     let clean = walks.clean_tasks()?;
     let mut reasons = Vec::new(walks.alloc());

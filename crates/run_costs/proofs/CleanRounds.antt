@@ -1,8 +1,8 @@
 -- The sums of the rounds of a task that is clean.
 use Rattle.std.proofs.Common.{◌≡◌, ℕ, Bool, true, false, List, refl, sym, subst}
 use Rattle.sloth_base.specs.declared.app.App.{App}
-use Rattle.bound_rules.specs.declared.weights.BodyWeights.{BodyWeights}
-use Rattle.walk_sums.specs.declared.tasks.RoundSums.{RoundSums}
+use Rattle.bound_rules.specs.declared.bound.BodyWeights.{BodyWeights}
+use Rattle.walk_sums.specs.declared.sections.RoundSums.{RoundSums}
 use Rattle.walk_sums.specs.Told.{AreToldRounds}
 use Rattle.run_costs.specs.Rounds.{AreRounds}
 use Rattle.run_costs.specs.Tables.{rounds_by}

@@ -6,12 +6,11 @@ use Rattle.sloth_base.specs.declared.config.Config.{Config}
 use Rattle.sloth_base.specs.declared.app.App.{App}
 use Rattle.osek_scheduler.specs.Apart.{static_priority}
 use Rattle.walk_sums.specs.declared.counted.Counted.TheVariants as counts
-use Rattle.walk_sums.specs.declared.tasks.RoundSums.{RoundSums}
+use Rattle.walk_sums.specs.declared.sections.RoundSums.{RoundSums}
 use Rattle.walk_sums.specs.Rounds.{IsClean, IsSteady}
 use Rattle.run_windows.specs.declared.costs.Makings.{Makings}
-use Rattle.run_costs.specs.declared.rounds.MakingSums.{MakingSums}
 use Rattle.run_costs.specs.CostsOf.{AreMade}
-use Rattle.run_costs.specs.Makings.{AreMakingSums}
+use Rattle.run_costs.specs.Makings.{MakingSums, AreMakingSums}
 use Rattle.run_costs.specs.RunRecord.{run_making}
 use Rattle.run_costs.specs.RunCosts.{AreRunMakings}
 use Rattle.run_costs.specs.Rounds.{made}

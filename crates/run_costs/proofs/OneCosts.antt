@@ -11,9 +11,9 @@ use Rattle.load_text.specs.declared.load_line.Entry.{Entry}
 use Rattle.load_text.specs.Loads.{work}
 use Rattle.osek_scheduler.specs.Apart.{static_priority}
 use Rattle.osek_blocking.specs.Sections.{IsSection, IsLower}
-use Rattle.bound_rules.specs.declared.weights.BodyWeights.{BodyWeights}
+use Rattle.bound_rules.specs.declared.bound.BodyWeights.{BodyWeights}
 use Rattle.walk_sums.specs.declared.sections.Sum.{Sum}
-use Rattle.walk_sums.specs.declared.tasks.RoundSums.{RoundSums}
+use Rattle.walk_sums.specs.declared.sections.RoundSums.{RoundSums}
 use Rattle.walk_sums.specs.declared.counted.Counted.{Counted}
 use Rattle.walk_sums.specs.Rounds.{IsTurn, IsFirstRound, IsLaterRound}
 use Rattle.walk_sums.specs.Counted.{one_if, counted_weights}
@@ -37,7 +37,7 @@ use Rattle.bounds_text.proofs.OneLatency.{same-lengths}
 use Rattle.bounds_text.proofs.OneLowerCounts.{same-weights}
 use Rattle.run_windows.specs.RunWindows.{call_path}
 use Rattle.run_costs.specs.RunCosts.{round_entry, counts_once, has_raised_waits, section_work, AreRunTaskCosts, AreRunMakings, AreRunSectionMakings, IsRunSectionMaking, IsRunLevel, IsRunCounter, AreRunCosts}
-use Rattle.run_costs.specs.declared.record.RunCosts.{RunCosts}
+use Rattle.run_windows.specs.declared.costs.RunCosts.{RunCosts}
 use Rattle.run_costs.specs.RunRecord.{longest_of, late_of, IsRunRecord}
 use Rattle.walk_sums.specs.declared.counted.Counted.TheVariants as counts
 

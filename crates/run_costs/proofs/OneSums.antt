@@ -1,10 +1,10 @@
 -- One thing is told of greatest sums.
 use Rattle.std.proofs.Common.{◌≡◌, ◌∙◌, ◌⊎◌, inl, inr, ℕ, ◌+◌, ◌<◌, ◌≤◌, List, refl, ap, arith}
 use Rattle.osek_blocking.specs.Walks.{Position}
-use Rattle.bound_rules.specs.declared.weights.BodyWeights.{BodyWeights}
+use Rattle.bound_rules.specs.declared.bound.BodyWeights.{BodyWeights}
 use Rattle.walk_sums.specs.declared.sections.Sum.{Sum}
 use Rattle.walk_sums.specs.declared.sections.Sum.TheVariants as sum
-use Rattle.walk_sums.specs.declared.tasks.RoundSums.{RoundSums}
+use Rattle.walk_sums.specs.declared.sections.RoundSums.{RoundSums}
 use Rattle.walk_sums.specs.Told.{NoneIsAbove, SomeReaches, IsToldSum, AreToldBoth, are_limited, are_endless}
 use Rattle.walk_sums.proofs.OneTold.{one_told}
 

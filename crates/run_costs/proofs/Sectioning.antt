@@ -8,7 +8,7 @@ use Rattle.sloth_base.specs.Named.{operation}
 use Rattle.sloth_base.specs.Limits.{count_limit}
 use Rattle.osek_scheduler.proofs.Facts.{Facts}
 use Rattle.osek_blocking.specs.Walks.{Position}
-use Rattle.bound_rules.specs.declared.weights.BodyWeights.{BodyWeights}
+use Rattle.bound_rules.specs.declared.bound.BodyWeights.{BodyWeights}
 use Rattle.bound_rules.specs.Weights.{ending_weight}
 use Rattle.walk_sums.specs.Weights.{sum_of, ending_at}
 use Rattle.walk_sums.proofs.Reached.{reached_inside}

@@ -2,7 +2,7 @@
 use Rattle.std.proofs.Common.{◌<◌, Bool, List, arith}
 use Rattle.sloth_base.specs.declared.app.App.{App}
 use Rattle.sloth_base.specs.Named.{function, item_of}
-use Rattle.bound_rules.specs.declared.weights.BodyWeights.{BodyWeights}
+use Rattle.bound_rules.specs.declared.bound.BodyWeights.{BodyWeights}
 use Rattle.run_counts.specs.Counts.{AreCounts}
 use Rattle.run_costs.specs.Sections.{AllWeigh}
 use Rattle.rv32_expand.specs.Long.{size, no_places}

@@ -1,5 +1,5 @@
 -- Parts of the costs of a configuration's tasks.
-use Rattle.std.specs.Prelude.{ℕ, ◌<◌, ◌≤◌, ◌≡◌, ◌⊎◌, not, Bool, true, false, List, length, get_or, Option, Some, None, Decides}
+use Rattle.std.specs.Prelude.{ℕ, ◌<◌, ◌≤◌, ◌≡◌, ◌⊎◌, not, Bool, true, false, List, [], length, get_or, Option, Some, None, Decides}
 use Rattle.sloth_base.specs.declared.config.Config.{Config}
 use Rattle.sloth_base.specs.declared.config.Action.{Action}
 use Rattle.sloth_base.specs.declared.config.Action.TheVariants as action
@@ -9,9 +9,9 @@ use Rattle.sloth_base.specs.declared.service.Service.TheVariants as service
 use Rattle.sloth_base.specs.Named.{declaration, alarm_declaration, operation}
 use Rattle.load_text.specs.Loads.{distance}
 use Rattle.osek_blocking.specs.Sections.{IsSection, IsLower}
-use Rattle.bound_rules.specs.declared.weights.BodyWeights.{BodyWeights}
+use Rattle.bound_rules.specs.declared.bound.BodyWeights.{BodyWeights}
 use Rattle.walk_sums.specs.declared.sections.Sum.{Sum}
-use Rattle.walk_sums.specs.declared.tasks.RoundSums.{RoundSums}
+use Rattle.walk_sums.specs.declared.sections.RoundSums.{RoundSums}
 use Rattle.walk_sums.specs.declared.counted.Counted.{Counted}
 use Rattle.walk_sums.specs.declared.counted.Counted.TheVariants as counts
 use Rattle.walk_sums.specs.Counted.{one_if, counted_weights, calls_for}
@@ -21,7 +21,7 @@ use Rattle.run_windows.specs.declared.costs.CounterCosts.{CounterCosts}
 use Rattle.run_windows.specs.declared.costs.AlarmCosts.{AlarmCosts}
 use Rattle.run_windows.specs.declared.costs.Services.{Services}
 use Rattle.run_windows.specs.declared.costs.SectionCosts.{SectionCosts}
-use Rattle.run_windows.specs.Costs.{no_section}
+use Rattle.run_windows.specs.Costs.{no_section, no_services}
 use Rattle.run_costs.specs.Rounds.{AreRounds, made, many}
 use Rattle.run_costs.specs.Sections.{IsRaised, DoesRaised}
 use Rattle.run_costs.specs.SectionSums.{is_endless}
@@ -47,6 +47,14 @@ pub record AreServices (app : App) (j k : ℕ) (s : Services) : Type 0 where
   pub activates : Decides s.activates (ReachesCounted app k (counts.CallsFor service.ActivateTask j))
   pub chains : Decides s.chains (ReachesCounted app k (counts.Chains j))
   pub sets_events : Decides s.sets_events (ReachesCounted app k (counts.Settings j))
+
+-- by all tasks
+abbrev pub AreServiceRow : Config → App → (j : ℕ) → List Services → Type 0
+AreServiceRow config app j row = AreEach (length config.tasks) no_services (AreServices app j) row
+
+-- by the task that is named
+abbrev pub AreServiceTable : Config → App → List (List Services) → Type 0
+AreServiceTable config app table = AreEach (length config.tasks) [] (λ j. AreServiceRow config app j) table
 
 -- ---- makings
 

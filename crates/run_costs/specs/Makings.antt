@@ -3,13 +3,12 @@ use Rattle.std.specs.Prelude.{ℕ, ◌<◌, false, Bool, List, length, get_or, D
 use Rattle.sloth_base.specs.declared.config.Config.{Config}
 use Rattle.sloth_base.specs.declared.app.App.{App}
 use Rattle.sloth_base.specs.Named.{declaration}
-use Rattle.bound_rules.specs.declared.weights.BodyWeights.{BodyWeights}
+use Rattle.bound_rules.specs.declared.bound.BodyWeights.{BodyWeights}
 use Rattle.walk_sums.specs.declared.counted.Counted.{Counted}
 use Rattle.walk_sums.specs.declared.counted.Counted.TheVariants as counts
-use Rattle.walk_sums.specs.declared.tasks.RoundSums.{RoundSums}
+use Rattle.walk_sums.specs.declared.sections.RoundSums.{RoundSums}
 use Rattle.walk_sums.specs.Counted.{counted_weights}
 use Rattle.walk_sums.specs.Rounds.{IsClean, IsSteady}
-use Rattle.run_costs.specs.declared.rounds.MakingSums.{MakingSums}
 use Rattle.run_costs.specs.Rounds.{AreRounds}
 use Rattle.run_costs.specs.Tables.{no_sums}
 use Rattle.run_costs.specs.CostsOf.{AreEach}
@@ -31,6 +30,12 @@ AreRoundSums config app clean weights sums =
 abbrev pub AreCountedSums : Config → App → (clean : List Bool) → Counted → List RoundSums → Type 0
 AreCountedSums config app clean c sums =
     (t : ℕ) → t < length config.tasks → AreRounds app (get_or clean t false) (declaration config t).extended t (counted_weights c app) (get_or sums t no_sums)
+
+-- the sums of the rounds of all tasks, of what makes one task Ready: activations of other tasks, its own ChainTask, and settings of its events
+pub record MakingSums : Type 0 where
+  pub activations : List RoundSums
+  pub chains : List RoundSums
+  pub settings : List RoundSums
 
 -- of what makes task j Ready
 pub record AreMakingSums (config : Config) (app : App) (clean : List Bool) (j : ℕ) (sums : MakingSums) : Type 0 where

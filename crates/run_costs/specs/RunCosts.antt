@@ -11,23 +11,24 @@ use Rattle.load_text.specs.Loads.{distance, work}
 use Rattle.code_lengths.specs.LongestPaths.{tick_path}
 use Rattle.osek_scheduler.specs.Apart.{static_priority}
 use Rattle.osek_blocking.specs.Sections.{IsLower}
-use Rattle.bound_rules.specs.declared.weights.BodyWeights.{BodyWeights}
+use Rattle.bound_rules.specs.declared.bound.BodyWeights.{BodyWeights}
 use Rattle.sim_induction.specs.Events.{enter_counts}
 use Rattle.run_counts.specs.Counts.{AreCounts}
-use Rattle.walk_sums.specs.declared.tasks.RoundSums.{RoundSums}
+use Rattle.walk_sums.specs.declared.sections.RoundSums.{RoundSums}
 use Rattle.walk_sums.specs.declared.counted.Counted.TheVariants as counts
 use Rattle.walk_sums.specs.Rounds.{IsClean, IsSteady}
 use Rattle.run_windows.specs.declared.costs.TaskCosts.{TaskCosts}
 use Rattle.run_windows.specs.declared.costs.CounterCosts.{CounterCosts}
 use Rattle.run_windows.specs.declared.costs.Makings.{Makings}
+use Rattle.run_windows.specs.declared.costs.SectionCosts.{SectionCosts}
 use Rattle.run_windows.specs.declared.costs.SectionMakings.{SectionMakings}
 use Rattle.run_windows.specs.declared.costs.Level.{Level}
 use Rattle.run_windows.specs.declared.costs.Costs.{Costs}
-use Rattle.run_windows.specs.Costs.{no_task, no_makings, no_services, no_level, no_section, no_section_makings}
+use Rattle.run_windows.specs.Costs.{no_task, no_makings, no_level, no_section, no_section_makings}
 use Rattle.run_windows.specs.RunWindows.{call_path}
 use Rattle.run_costs.specs.Coming.{AreComing}
 use Rattle.run_costs.specs.Rounds.{AreRounds, round_cost, activations_of}
-use Rattle.run_costs.specs.CostsOf.{AreEach, ReachesService, IsGreatest, AreMade, AreServices, IsTaskSection, IsSectionMade, no_counter, no_alarm, IsAlarm}
+use Rattle.run_costs.specs.CostsOf.{AreEach, ReachesService, IsGreatest, AreMade, AreServiceTable, IsTaskSection, IsSectionMade, no_counter, no_alarm, IsAlarm}
 
 -- ---- tasks
 
@@ -71,6 +72,10 @@ pub record AreRunTaskCosts (config : Config) (app : App) (load : List Entry) (we
   pub section_work : c.section_work ≡ section_work config load clean waits t
   pub service : IsGreatest app t call_path c.service
 
+-- those of all tasks
+abbrev pub AreTaskCosts : Config → App → List Entry → List BodyWeights → List TaskCosts → Type 0
+AreTaskCosts config app load weights list = AreEach (length config.tasks) no_task (AreRunTaskCosts config app load weights) list
+
 -- ---- makings
 
 -- How often rounds of task k make task j Ready: they activate it once at most where j cannot run meanwhile.
@@ -81,6 +86,14 @@ pub record AreRunMakings (config : Config) (app : App) (j k : ℕ) (m : Makings)
   pub is_once : Decides once ((static_priority config j ≤ static_priority config k) ⊎ IsSteady config app k)
   pub activations : AreMade config app clean k (activations_of k j) once m.first_activations m.next_activations
   pub settings : AreMade config app clean k (counts.Settings j) false m.first_settings m.next_settings
+
+-- of all tasks
+abbrev pub AreMakingRow : Config → App → (j : ℕ) → List Makings → Type 0
+AreMakingRow config app j row = AreEach (length config.tasks) no_makings (AreRunMakings config app j) row
+
+-- by the task that is made
+abbrev pub AreMakingTable : Config → App → List (List Makings) → Type 0
+AreMakingTable config app table = AreEach (length config.tasks) [] (λ j. AreMakingRow config app j) table
 
 -- How often sections of task k for h make task j Ready: they activate it once at most where k is not preemptable, or j is h; they set its events as walks say.
 pub record AreRunSectionMakings (config : Config) (app : App) (h j k : ℕ) (m : SectionMakings) : Type 0 where
@@ -93,10 +106,26 @@ IsRunSectionMaking config app h j k m =
     (IsLower config h k → ¬ (IsLower config h j) → AreRunSectionMakings config app h j k m)
     × (¬ (IsLower config h k × ¬ (IsLower config h j)) → m ≡ no_section_makings)
 
+-- of all tasks
+abbrev pub AreSectionMakingRow : Config → App → (h j : ℕ) → List SectionMakings → Type 0
+AreSectionMakingRow config app h j row = AreEach (length config.tasks) no_section_makings (IsRunSectionMaking config app h j) row
+
+-- by the task that is made
+abbrev pub AreSectionMakingTable : Config → App → (h : ℕ) → List (List SectionMakings) → Type 0
+AreSectionMakingTable config app h table = AreEach (length config.tasks) [] (λ j. AreSectionMakingRow config app h j) table
+
+-- the sections of all tasks for h
+abbrev pub AreSectionRow : Config → App → List BodyWeights → (h : ℕ) → List SectionCosts → Type 0
+AreSectionRow config app weights h list = AreEach (length config.tasks) no_section (IsTaskSection config app weights h) list
+
 -- those of all tasks for task h
 pub record IsRunLevel (config : Config) (app : App) (weights : List BodyWeights) (h : ℕ) (l : Level) : Type 0 where
-  pub sections : AreEach (length config.tasks) no_section (IsTaskSection config app weights h) l.sections
-  pub makings : AreEach (length config.tasks) [] (λ j. AreEach (length config.tasks) no_section_makings (IsRunSectionMaking config app h j)) l.makings
+  pub sections : AreSectionRow config app weights h l.sections
+  pub makings : AreSectionMakingTable config app h l.makings
+
+-- for each task
+abbrev pub AreRunLevels : Config → App → List BodyWeights → List Level → Type 0
+AreRunLevels config app weights list = AreEach (length config.tasks) no_level (IsRunLevel config app weights) list
 
 -- ---- counters and alarms
 
@@ -109,10 +138,10 @@ IsRunCounter config load c costs = costs ≡ record { distance = distance load (
 pub record AreRunCosts (config : Config) (app : App) (load : List Entry) (costs : Costs) : Type 0 where
   pub weights : List BodyWeights
   pub are_counts : AreCounts app weights
-  pub tasks : AreEach (length config.tasks) no_task (AreRunTaskCosts config app load weights) costs.tasks
+  pub tasks : AreTaskCosts config app load weights costs.tasks
   pub comes : AreComing config app load costs.comes
   pub counters : AreEach (length config.counters) no_counter (IsRunCounter config load) costs.counters
   pub alarms : AreEach (length config.alarms) no_alarm (IsAlarm config app) costs.alarms
-  pub makings : AreEach (length config.tasks) [] (λ j. AreEach (length config.tasks) no_makings (AreRunMakings config app j)) costs.makings
-  pub services : AreEach (length config.tasks) [] (λ j. AreEach (length config.tasks) no_services (AreServices app j)) costs.services
-  pub levels : AreEach (length config.tasks) no_level (IsRunLevel config app weights) costs.levels
+  pub makings : AreMakingTable config app costs.makings
+  pub services : AreServiceTable config app costs.services
+  pub levels : AreRunLevels config app weights costs.levels

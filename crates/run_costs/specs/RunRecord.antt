@@ -6,9 +6,9 @@ use Rattle.load_text.specs.declared.load_line.Entry.{Entry}
 use Rattle.code_lengths.specs.LongestPaths.{boot_path}
 use Rattle.sim_induction.specs.Items.{AreLengths}
 use Rattle.osek_blocking.specs.Sections.{IsLower, IsSection}
-use Rattle.bound_rules.specs.declared.weights.BodyWeights.{BodyWeights}
+use Rattle.bound_rules.specs.declared.bound.BodyWeights.{BodyWeights}
 use Rattle.walk_sums.specs.declared.sections.Sum.{Sum}
-use Rattle.walk_sums.specs.declared.tasks.RoundSums.{RoundSums}
+use Rattle.walk_sums.specs.declared.sections.RoundSums.{RoundSums}
 use Rattle.walk_sums.specs.declared.counted.Counted.{Counted}
 use Rattle.walk_sums.specs.Counted.{counted_weights}
 use Rattle.walk_sums.specs.Sections.{no_sum}
@@ -22,7 +22,7 @@ use Rattle.run_costs.specs.CostsOf.{IsSectionMade}
 use Rattle.run_costs.specs.SectionSums.{is_lower, is_once, does}
 use Rattle.run_counts.specs.Counts.{AreCounts}
 use Rattle.run_costs.specs.RunCosts.{AreRunCosts}
-use Rattle.run_costs.specs.declared.record.RunCosts.{RunCosts}
+use Rattle.run_windows.specs.declared.costs.RunCosts.{RunCosts}
 
 -- ---- limits
 

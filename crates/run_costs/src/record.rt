@@ -1,17 +1,16 @@
 //! The whole record, and in it what tasks, counters and alarms cost.
-ghost use Rattle.std.specs.Prelude.{◌≡◌, length, IfOk, Some, None, ◌&&◌, ◌<◌, [], cond, ◌≤◌, ◌⊎◌, ℕ, true, Decides};
+ghost use Rattle.std.specs.Prelude.{◌≡◌, length, IfOk, None, ◌&&◌, ◌<◌, [], cond, ◌≤◌, ℕ, true, Decides};
 ghost use Rattle.code_rules.specs.WellFormed.{WellFormed};
 ghost use Rattle.call_graph.specs.Ranks.{RanksOf};
 ghost use Rattle.run_counts.specs.Counts.{AreCounts};
 ghost use Rattle.walk_sums.specs.Weights.{AreWeights};
-ghost use Rattle.run_windows.specs.Costs.{no_task};
 ghost use Rattle.run_costs.specs.CostsOf.{AreEach, IsGreatest, no_counter, Names, task_of, sets_events, no_alarm};
 ghost use Rattle.run_costs.specs.CostsOf.{IsAlarm};
-ghost use Rattle.run_costs.specs.Services.{AreAllNamingTops, AreServiceTops, reaches, reached_path};
+ghost use Rattle.run_costs.specs.Services.{AreServiceTops, reaches, reached_path};
 ghost use Rattle.run_costs.specs.Makings.{AreCleanMarks, AreRoundSums};
-ghost use Rattle.run_costs.specs.RunCosts.{AreRunTaskCosts, AreRunCosts, round_entry, raising_counts};
+ghost use Rattle.run_costs.specs.RunCosts.{AreRunTaskCosts, AreTaskCosts, AreRunCosts, round_entry, raising_counts};
 ghost use Rattle.run_costs.specs.RunCosts.{has_raised_waits, counts_once, IsRunCounter};
-ghost use Rattle.run_costs.specs.RunRecord.{late_of, IsRunRecord};
+ghost use Rattle.run_costs.specs.RunRecord.{IsRunRecord};
 ghost use Rattle.sloth_base.specs.Named.{declaration, item_of};
 ghost use Rattle.sloth_base.specs.ServiceCodes.{service_of};
 ghost use Rattle.code_lengths.specs.LongestPaths.{enter_path};
@@ -23,7 +22,9 @@ ghost use Rattle.sloth_base.specs.declared.service.Service.TheVariants as servic
 
 use crate::rounds::{makings, many, numbered_sums, round_sums};
 use crate::sections::levels;
-use crate::services::{NamingTops, all_naming_tops, coming, reaches, service_tops, services};
+use crate::services::{
+    Row, all_naming_tops, all_setting_tops, coming, reaches, service_tops, services,
+};
 use bound_rules::{BodyWeights, is_marked};
 use bounds_text::{heaviest_ending, longest_item, running_counts};
 use call_graph::Ranks;
@@ -31,96 +32,35 @@ use code_lengths::{boot_path, entry_path, tick_path};
 use load_text::{Entry, distance_of, work_of};
 use run_counts::count_weights;
 use run_windows::level::lesser;
-use run_windows::{AlarmCosts, Costs, CounterCosts, TaskCosts, call_path};
+use run_windows::{AlarmCosts, Costs, CounterCosts, RunCosts, TaskCosts, call_path};
 use sim_induction::lengths;
 use sloth_base::{Action, App, Config, FIRST_COUNTER_LINE, Func, List, Result, Service};
 use std::alloc::Global;
 use text_pieces::push;
 use walk_sums::{RoundSums, Sum, Walks, calls_object, known_code, numbered_function};
 
-/// Costs that runs keep, where no item has more instructions than `longest`, and no stretch more counts than `late`.
-#[derive(Drop)]
-pub struct RunCosts {
-    pub costs: Costs,
-    pub longest: u32,
-    pub late: u32,
-}
-
-// The costs by what is known of clean tasks and of what walks come to.
-fn known_costs(
-    walks: &Walks,
-    load: &[Entry],
-    weights: &[BodyWeights],
-    clean: &[bool],
-    naming: &[NamingTops],
-    tasks: List<TaskCosts>,
-) -> Result<Costs>
-    requires counts { AreCounts walks.now.app weights.now }
-    requires fit { AreWeights walks.now.app weights.now }
-    requires clean { AreCleanMarks walks.now.config walks.now.app clean.now }
-    requires naming { AreAllNamingTops walks.now.config walks.now.app naming.now }
-    requires tasks { AreEach (length walks.now.config.tasks) no_task
-        (AreRunTaskCosts walks.now.config walks.now.app load.now weights.now) tasks }
-    ensures { IfOk result (AreRunCosts walks.now.config walks.now.app load.now) }
-{
-    let config = walks.config();
-    let app = walks.app();
-    let steady = walks.steady_tasks()?;
-    let makings = makings(walks, clean, &steady, naming)?;
-    let levels = levels(walks, weights, naming)?;
-    let services = services(walks, naming)?;
-    let comes = coming(walks, load, naming)?;
-    let counters = counters(walks.alloc(), config, load)?;
-    let alarms = alarms(walks.alloc(), config, app)?;
-    Ok(Costs {
-        tasks,
-        comes: List::from_vec(comes),
-        counters: List::from_vec(counters),
-        alarms: List::from_vec(alarms),
-        makings: List::from_vec(makings),
-        services: List::from_vec(services),
-        levels: List::from_vec(levels),
-    })
-}
-
 fn costs(walks: &Walks, load: &[Entry], weights: &[BodyWeights]) -> Result<Costs>
     requires counts { AreCounts walks.now.app weights.now }
     requires fit { AreWeights walks.now.app weights.now }
     ensures { IfOk result (AreRunCosts walks.now.config walks.now.app load.now) }
 {
+    let (config, app) = (walks.config(), walks.app());
     let clean = walks.clean_tasks()?;
-    let reached = service_tops(walks)?;
-    let tasks = tasks(walks, load, weights, &clean, &reached)?;
+    let steady = walks.steady_tasks()?;
     let naming = all_naming_tops(walks)?;
-    known_costs(walks, load, weights, &clean, &naming, List::from_vec(tasks))
-}
-
-// The counts of the longest stretch that may come, boot among them.
-fn longest_stretch(config: &Config, app: &App, weights: &[BodyWeights]) -> u32
-    requires { WellFormed config.now app.now }
-    ensures { result ≡ late_of config.now app.now weights.now }
-{
-    running_counts(config, app, heaviest_ending(weights)).max(boot_path(config))
-}
-
-fn walked_record(walks: &Walks, load: &[Entry]) -> Result<RunCosts>
-    ensures { IfOk result (IsRunRecord walks.now.config walks.now.app load.now) }
-{
-    let config = walks.config();
-    let app = walks.app();
-    let lengths = lengths(walks.alloc(), app)?;
-    let weights = count_weights(walks.alloc(), app)?;
-    let longest = longest_item(&lengths).max(1);
-    let late = longest_stretch(config, app, &weights);
-    let costs = costs(walks, load, &weights)?;
-    Ok(RunCosts {
-        costs,
-        longest,
-        late,
+    let settings = all_setting_tops(walks)?;
+    Ok(Costs {
+        tasks: tasks(walks, load, weights, &clean)?,
+        comes: coming(walks, load, &naming, &settings)?,
+        counters: counters(walks.alloc(), config, load)?,
+        alarms: alarms(walks.alloc(), config, app)?,
+        makings: makings(walks, &clean, &steady, &naming)?,
+        services: services(walks, &naming)?,
+        levels: levels(walks, weights, &naming)?,
     })
 }
 
-/// The costs that runs keep under a load, with the longest item and the longest stretch.
+/// The costs that runs keep under a load, with the longest item and the longest stretch, boot among them.
 pub fn run_costs(
     alloc: Global,
     config: &Config,
@@ -134,8 +74,16 @@ pub fn run_costs(
 {
     let known = known_code(alloc, config, app, ranks)?;
     let walks = Walks::of(alloc, config, app, &known);
-    let record = walked_record(&walks, load)?;
-    Ok(record)
+    let lengths = lengths(alloc, app)?;
+    let weights = count_weights(alloc, app)?;
+    let longest = longest_item(&lengths).max(1);
+    let late = running_counts(config, app, heaviest_ending(&weights)).max(boot_path(config));
+    let costs = costs(&walks, load, &weights)?;
+    Ok(RunCosts {
+        costs,
+        longest,
+        late,
+    })
 }
 
 // The entry of a task, that starts anew or goes on behind a wait.
@@ -143,8 +91,7 @@ fn entry(walks: &Walks, resumed: bool, task: usize) -> u32
     requires { task < length walks.now.config.tasks }
     ensures { result ≡ enter_path walks.now.config walks.now.app resumed task }
 {
-    let app = walks.app();
-    let words = app.funcs.items()[walks.body(task)].frame_words;
+    let words = walks.app().funcs.items()[walks.body(task)].frame_words;
     entry_path(walks.task(task).extended, resumed, words)
 }
 
@@ -252,16 +199,14 @@ fn task_costs(
     let raised = has_raised_waits(walks, is_clean, services, task);
     let entry = round_entry(walks, is_clean, false, task);
     let resumed = round_entry(walks, is_clean, true, task);
-    let first = round_cost(entry, work, sums.first);
-    let next = round_cost(resumed, work, sums.later);
     TaskCosts {
         priority: walks.priority(task),
         is_entered_once: counts_once(walks, is_clean, task),
         is_autostarted: declared.autostart,
         is_cut: is_cut(walks, is_clean, task),
         distance: distance_of(load, task as u8),
-        first,
-        next,
+        first: round_cost(entry, work, sums.first),
+        next: round_cost(resumed, work, sums.later),
         raising: raising_counts(walks, task),
         has_raised_waits: raised,
         section_work: section_work(raised, work),
@@ -269,27 +214,19 @@ fn task_costs(
     }
 }
 
-/// What each task costs.
-pub fn tasks(
-    walks: &Walks,
-    load: &[Entry],
-    weights: &[BodyWeights],
-    clean: &[bool],
-    services: &[List<u64>],
-) -> Result<Vec<TaskCosts>>
+fn tasks(walks: &Walks, load: &[Entry], weights: &[BodyWeights], clean: &[bool]) -> Row<TaskCosts>
     requires weights { AreWeights walks.now.app weights.now }
     requires clean { AreCleanMarks walks.now.config walks.now.app clean.now }
-    requires services { AreEach 16 [] (AreServiceTops walks.now.config walks.now.app) services.now }
-    ensures { IfOk result (λ list. AreEach (length walks.now.config.tasks) no_task
-        (AreRunTaskCosts walks.now.config walks.now.app load.now weights.now) list.items) }
+    ensures { IfOk result (AreTaskCosts walks.now.config walks.now.app load.now weights.now) }
 {
+    let services = service_tops(walks)?;
     let rounds = round_sums(walks, weights, clean)?;
     let mut list = Vec::new(walks.alloc());
     for task in 0..walks.tasks() {
-        let costs = task_costs(walks, load, weights, &rounds, clean, services, task);
+        let costs = task_costs(walks, load, weights, &rounds, clean, &services, task);
         push(&mut list, costs)?;
     }
-    Ok(list)
+    Ok(List::from_vec(list))
 }
 
 // Whether an item of a body calls the service for the alarm.
@@ -316,12 +253,6 @@ fn is_named(app: &App, service: Service, alarm: u32) -> bool
     false
 }
 
-fn is_set(app: &App, alarm: u32) -> bool
-    ensures { Decides result (Names app.now service.SetRelAlarm alarm ⊎ Names app.now service.SetAbsAlarm alarm) }
-{
-    is_named(app, Service::SetRelAlarm, alarm) || is_named(app, Service::SetAbsAlarm, alarm)
-}
-
 /// The task of an action.
 pub fn action_task(action: &Action) -> u32
     ensures { result ≡ task_of action.now }
@@ -336,10 +267,7 @@ pub fn action_task(action: &Action) -> u32
 pub fn sets_events(action: &Action) -> bool
     ensures { result ≡ sets_events action.now }
 {
-    match *action {
-        Action::Activate(_) => false,
-        Action::Set(_, _) => true,
-    }
+    matches!(*action, Action::Set(_, _))
 }
 
 fn alarm(config: &Config, app: &App, number: usize) -> AlarmCosts
@@ -348,35 +276,32 @@ fn alarm(config: &Config, app: &App, number: usize) -> AlarmCosts
     ensures { IsAlarm config.now app.now number result }
 {
     let declared = &config.alarms.items()[number];
+    let (relative, absolute) = (Service::SetRelAlarm, Service::SetAbsAlarm);
     AlarmCosts {
         counter: declared.counter,
         task: action_task(&declared.action),
         sets_events: sets_events(&declared.action),
         time: declared.time,
         cycle: declared.cycle,
-        is_set: is_set(app, number as u32),
+        is_set: is_named(app, relative, number as u32) || is_named(app, absolute, number as u32),
     }
 }
 
-/// Of each alarm.
-pub fn alarms(alloc: Global, config: &Config, app: &App) -> Result<Vec<AlarmCosts>>
+fn alarms(alloc: Global, config: &Config, app: &App) -> Row<AlarmCosts>
     requires { length config.now.alarms ≤ alarm_limit }
-    ensures { IfOk result (λ list. AreEach (length config.now.alarms) no_alarm
-        (IsAlarm config.now app.now) list.items) }
+    ensures { IfOk result (AreEach (length config.now.alarms) no_alarm (IsAlarm config.now app.now)) }
 {
     let mut list = Vec::new(alloc);
     for number in 0..config.alarms.items().len() {
         push(&mut list, alarm(config, app, number))?;
     }
-    Ok(list)
+    Ok(List::from_vec(list))
 }
 
-/// Of each counter.
-pub fn counters(alloc: Global, config: &Config, load: &[Entry]) -> Result<Vec<CounterCosts>>
+fn counters(alloc: Global, config: &Config, load: &[Entry]) -> Row<CounterCosts>
     requires few { length config.now.counters ≤ counter_limit }
     requires alarms { length config.now.alarms ≤ alarm_limit }
-    ensures { IfOk result (λ list. AreEach (length config.now.counters) no_counter
-        (IsRunCounter config.now load.now) list.items) }
+    ensures { IfOk result (AreEach (length config.now.counters) no_counter (IsRunCounter config.now load.now)) }
 {
     let mut list = Vec::new(alloc);
     for number in 0..config.counters.items().len() {
@@ -386,5 +311,5 @@ pub fn counters(alloc: Global, config: &Config, load: &[Entry]) -> Result<Vec<Co
         };
         push(&mut list, counter)?;
     }
-    Ok(list)
+    Ok(List::from_vec(list))
 }

@@ -1,34 +1,26 @@
 //! The greatest sums of rounds, and how often rounds make tasks Ready.
-ghost use Rattle.std.specs.Prelude.{◌≡◌, ◌<◌, ℕ, None, true, false, length, get_or, IfOk, ◌||◌, leb, cond, []};
+ghost use Rattle.std.specs.Prelude.{◌≡◌, ◌<◌, ◌≤◌, ℕ, None, true, false, length, get_or, IfOk, ◌||◌, cond, leb};
+ghost use Rattle.sloth_base.specs.Limits.{task_limit};
 ghost use Rattle.sloth_base.specs.Named.{declaration};
 ghost use Rattle.walk_sums.specs.Counted.{counted_weights};
 ghost use Rattle.walk_sums.specs.Weights.{AreWeights};
 ghost use Rattle.walk_sums.specs.Known.{AreSums};
-ghost use Rattle.run_costs.specs.Makings.{AreRoundSums, AreCountedSums, AreMakingSums, AreCleanMarks};
-ghost use Rattle.run_costs.specs.Makings.{AreSteadyMarks};
-ghost use Rattle.run_costs.specs.Rounds.{AreRounds, many, one, made};
+ghost use Rattle.run_costs.specs.Makings.{AreRoundSums, AreCountedSums, AreCleanMarks, AreSteadyMarks};
+ghost use Rattle.run_costs.specs.Rounds.{AreRounds, many, made};
 ghost use Rattle.run_costs.specs.Tops.{AreTaskTops};
 ghost use Rattle.run_costs.specs.Tables.{both, rounds_by, AreTurns, no_sums};
-ghost use Rattle.osek_scheduler.specs.Apart.{static_priority};
-ghost use Rattle.run_windows.specs.Costs.{no_makings};
-ghost use Rattle.run_costs.specs.CostsOf.{AreEach};
 ghost use Rattle.run_costs.specs.Services.{AreNamingTops, AreAllNamingTops};
-ghost use Rattle.run_costs.specs.RunCosts.{AreRunMakings};
+ghost use Rattle.osek_scheduler.specs.Apart.{static_priority};
+ghost use Rattle.run_costs.specs.RunCosts.{AreMakingRow, AreMakingTable};
 ghost use Rattle.run_costs.specs.RunRecord.{run_making};
-ghost use Rattle.walk_sums.specs.declared.kinds.Kind.TheVariants as kinds;
+ghost use Rattle.walk_sums.specs.declared.levels.Kind.TheVariants as kinds;
 
-use crate::services::{NamingTops, numbered_tops};
+use crate::services::{NamingTops, Row, Table, numbered_tops};
 use bound_rules::{BodyWeights, Summary, is_marked};
 use run_windows::Makings;
 use sloth_base::{List, Result};
 use text_pieces::push;
 use walk_sums::{Counted, Kind, RoundSums, Sum, Walks, counted_weights};
-
-/// Rounds without a sum.
-pub const NO_SUMS: RoundSums = RoundSums {
-    first: Sum::Counts(0),
-    later: Sum::Counts(0),
-};
 
 fn all_marked(marks: &[bool], count: usize) -> bool
     ensures { result ≡ true → (t : ℕ) → t < count → get_or marks.now t false ≡ true }
@@ -119,13 +111,8 @@ pub fn round_sums(walks: &Walks, weights: &[BodyWeights], clean: &[bool]) -> Res
     Ok(sums)
 }
 
-/// How often rounds of all tasks do what counts, by their tops; nothing where none does.
-pub fn counted_sums(
-    walks: &Walks,
-    clean: &[bool],
-    tops: &[u64],
-    counted: Counted,
-) -> Result<Vec<RoundSums>>
+// How often rounds of all tasks do what counts, by their tops; nothing where none does.
+fn top_sums(walks: &Walks, clean: &[bool], tops: &[u64], counted: Counted) -> Result<Vec<RoundSums>>
     requires { AreTaskTops walks.now.config walks.now.app counted tops.now }
     ensures { IfOk result (λ sums. AreCountedSums walks.now.config walks.now.app clean.now counted sums.items) }
 {
@@ -147,46 +134,16 @@ pub fn many(sum: Sum) -> Option<u32>
     }
 }
 
-fn one(sum: Sum) -> u32
-    ensures { result ≡ one sum }
-{
-    match sum {
-        Sum::Counts(count) => count.min(1),
-        Sum::Huge | Sum::Endless => 1,
-    }
-}
-
 // How often at most, once where `once` says so.
 fn made(once: bool, sum: Sum) -> Option<u32>
     ensures { result ≡ made once sum }
 {
-    if once { Some(one(sum)) } else { many(sum) }
-}
-
-/// The sums of the rounds of all tasks, of what makes one task Ready.
-#[derive(Drop)]
-pub struct MakingSums {
-    /// Of other tasks.
-    pub activations: List<RoundSums>,
-    /// Of its own ChainTask.
-    pub chains: List<RoundSums>,
-    pub settings: List<RoundSums>,
-}
-
-// Those for one task.
-fn making_sums(walks: &Walks, clean: &[bool], tops: &NamingTops, named: u32) -> Result<MakingSums>
-    requires { AreNamingTops walks.now.config walks.now.app named tops.now }
-    ensures { IfOk result (AreMakingSums walks.now.config walks.now.app clean.now named) }
-{
-    let (either, setting) = (tops.either.items(), tops.setting.items());
-    let activations = counted_sums(walks, clean, either, Counted::Activations(named))?;
-    let chains = counted_sums(walks, clean, tops.chain.items(), Counted::Chains(named))?;
-    let settings = counted_sums(walks, clean, setting, Counted::Settings(named))?;
-    Ok(MakingSums {
-        activations: List::from_vec(activations),
-        chains: List::from_vec(chains),
-        settings: List::from_vec(settings),
-    })
+    match sum {
+        Sum::Counts(count) if once => Some(count.min(1)),
+        Sum::Counts(count) => Some(count),
+        _ if once => Some(1),
+        _ => None,
+    }
 }
 
 // Whether the task that is made cannot run between two makings of a round.
@@ -203,74 +160,62 @@ fn is_once(walks: &Walks, steady: &[bool], maker: usize, named: usize) -> bool
 pub fn numbered_sums(list: &[RoundSums], task: usize) -> RoundSums
     ensures { result ≡ get_or list.now task no_sums }
 {
-    list.get(task).copied().unwrap_or(NO_SUMS)
+    list.get(task).copied().unwrap_or(both(Sum::Counts(0)))
 }
 
-// The sums of its activations of another task, or of its own ChainTask.
-fn activation_sums(sums: &MakingSums, itself: bool, maker: usize) -> RoundSums
-    ensures { result ≡ cond itself (get_or sums.now.chains maker no_sums) (get_or sums.now.activations maker no_sums) }
+// Of itself its own ChainTask counts.
+fn run_making(once: bool, own: bool, chain: RoundSums, other: RoundSums, set: RoundSums) -> Makings
+    ensures { result ≡ run_making once (cond own chain other) set }
 {
-    if itself {
-        numbered_sums(sums.chains.items(), maker)
-    } else {
-        numbered_sums(sums.activations.items(), maker)
-    }
-}
-
-fn run_making(once: bool, activations: RoundSums, settings: RoundSums) -> Makings
-    ensures { result ≡ run_making once activations settings }
-{
+    let activations = if own { chain } else { other };
     Makings {
         first_activations: made(once, activations.first),
-        first_settings: made(false, settings.first),
+        first_settings: made(false, set.first),
         next_activations: made(once, activations.later),
-        next_settings: made(false, settings.later),
+        next_settings: made(false, set.later),
     }
 }
 
-fn summed_makers(
-    walks: &Walks,
-    clean: &[bool],
-    steady: &[bool],
-    sums: &MakingSums,
-    named: usize,
-) -> Result<Vec<Makings>>
-    requires named { named < length walks.now.config.tasks }
+// How often rounds make one task Ready, of each task.
+fn row(walks: &Walks, clean: &[bool], steady: &[bool], tops: &NamingTops, j: usize) -> Row<Makings>
+    requires named { j < length walks.now.config.tasks }
     requires clean { AreCleanMarks walks.now.config walks.now.app clean.now }
     requires steady { AreSteadyMarks walks.now.config walks.now.app steady.now }
-    requires sums { AreMakingSums walks.now.config walks.now.app clean.now named sums.now }
-    ensures { IfOk result (λ row. AreEach (length walks.now.config.tasks) no_makings
-        (AreRunMakings walks.now.config walks.now.app named) row.items) }
+    requires tops { AreNamingTops walks.now.config walks.now.app j tops.now }
+    requires few { length walks.now.config.tasks ≤ task_limit }
+    ensures { IfOk result (AreMakingRow walks.now.config walks.now.app j) }
 {
+    let named = j as u32;
+    let activations = top_sums(
+        walks,
+        clean,
+        tops.either.items(),
+        Counted::Activations(named),
+    )?;
+    let chains = top_sums(walks, clean, tops.chain.items(), Counted::Chains(named))?;
+    let settings = top_sums(walks, clean, tops.setting.items(), Counted::Settings(named))?;
     let mut row = Vec::new(walks.alloc());
     for maker in 0..walks.tasks() {
-        let once = is_once(walks, steady, maker, named);
-        let activations = activation_sums(sums, maker == named, maker);
-        let settings = numbered_sums(sums.settings.items(), maker);
-        push(&mut row, run_making(once, activations, settings))?;
+        let once = is_once(walks, steady, maker, j);
+        let own = numbered_sums(&chains, maker);
+        let other = numbered_sums(&activations, maker);
+        let set = numbered_sums(&settings, maker);
+        push(&mut row, run_making(once, maker == j, own, other, set))?;
     }
-    Ok(row)
+    Ok(List::from_vec(row))
 }
 
 /// How often rounds make tasks Ready, by the task that is made.
-pub fn makings(
-    walks: &Walks,
-    clean: &[bool],
-    steady: &[bool],
-    tops: &[NamingTops],
-) -> Result<Vec<List<Makings>>>
+pub fn makings(walks: &Walks, clean: &[bool], steady: &[bool], all: &[NamingTops]) -> Table<Makings>
     requires clean { AreCleanMarks walks.now.config walks.now.app clean.now }
     requires steady { AreSteadyMarks walks.now.config walks.now.app steady.now }
-    requires tops { AreAllNamingTops walks.now.config walks.now.app tops.now }
-    ensures { IfOk result (λ table. AreEach (length walks.now.config.tasks) []
-        (λ j. AreEach (length walks.now.config.tasks) no_makings
-        (AreRunMakings walks.now.config walks.now.app j)) table.items) }
+    requires tops { AreAllNamingTops walks.now.config walks.now.app all.now }
+    ensures { IfOk result (AreMakingTable walks.now.config walks.now.app) }
 {
     let mut table = Vec::new(walks.alloc());
     for named in 0..walks.tasks() {
-        let sums = making_sums(walks, clean, numbered_tops(tops, named), named as u32)?;
-        let row = summed_makers(walks, clean, steady, &sums, named)?;
-        push(&mut table, List::from_vec(row))?;
+        let row = row(walks, clean, steady, numbered_tops(all, named), named)?;
+        push(&mut table, row)?;
     }
-    Ok(table)
+    Ok(List::from_vec(table))
 }

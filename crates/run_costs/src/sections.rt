@@ -1,20 +1,17 @@
 //! The raised sections of lower tasks for each task, and how often they make tasks Ready.
-ghost use Rattle.std.specs.Prelude.{◌≡◌, ◌<◌, ◌≤◌, length, get_or, IfOk, ℕ, false, []};
+ghost use Rattle.std.specs.Prelude.{◌≡◌, ◌<◌, ◌≤◌, length, get_or, IfOk, ℕ, false};
 ghost use Rattle.sloth_base.specs.Limits.{task_limit};
 ghost use Rattle.walk_sums.specs.Weights.{AreWeights};
 ghost use Rattle.walk_sums.specs.Sections.{no_sum};
-ghost use Rattle.run_windows.specs.Costs.{no_section, no_section_makings, no_level};
-ghost use Rattle.run_costs.specs.CostsOf.{AreEach, IsTaskSection};
 ghost use Rattle.run_costs.specs.Rounds.{many};
 ghost use Rattle.run_costs.specs.Sections.{AllWeigh};
-ghost use Rattle.run_costs.specs.SectionSums.{is_lower, has_some, is_endless, does, is_once};
+ghost use Rattle.run_costs.specs.SectionSums.{is_lower, has_some, is_endless, does};
 ghost use Rattle.run_costs.specs.Services.{AreNamingTops, AreAllNamingTops};
-ghost use Rattle.run_costs.specs.RunCosts.{IsRunSectionMaking, IsRunLevel};
+ghost use Rattle.run_costs.specs.RunCosts.{AreSectionRow, AreSectionMakingRow, AreSectionMakingTable, AreRunLevels};
 ghost use Rattle.run_costs.specs.RunRecord.{is_asked, times, AreSummed};
-ghost use Rattle.walk_sums.specs.declared.counted.Counted.TheVariants as counts;
 
 use crate::rounds::many;
-use crate::services::{NamingTops, numbered_top, numbered_tops};
+use crate::services::{NamingTops, Row, Table, numbered_top, numbered_tops};
 use bound_rules::BodyWeights;
 use run_windows::{Level, SectionCosts, SectionMakings};
 use sloth_base::{List, Result};
@@ -50,19 +47,18 @@ fn summed_sections(sum: Sum) -> SectionCosts
     }
 }
 
-fn sections(walks: &Walks, weights: &[BodyWeights], h: usize) -> Result<Vec<SectionCosts>>
+fn sections(walks: &Walks, weights: &[BodyWeights], h: usize) -> Row<SectionCosts>
     requires weigh { AllWeigh walks.now.app weights.now }
     requires fit { AreWeights walks.now.app weights.now }
     requires above { h < length walks.now.config.tasks }
-    ensures { IfOk result (λ list. AreEach (length walks.now.config.tasks) no_section
-        (IsTaskSection walks.now.config walks.now.app weights.now h) list.items) }
+    ensures { IfOk result (AreSectionRow walks.now.config walks.now.app weights.now h) }
 {
     let sums = walks.sums_above(weights, h)?;
     let mut list = Vec::new(walks.alloc());
     for task in 0..walks.tasks() {
         push(&mut list, summed_sections(numbered_sum(&sums, task)))?;
     }
-    Ok(list)
+    Ok(List::from_vec(list))
 }
 
 // Whether a section of a lower task does what counts, by its top.
@@ -111,17 +107,8 @@ fn asked_sums(walks: &Walks, h: usize, j: usize, tops: &[u64], counted: Counted)
     if !some_asked(walks, h, j, tops) {
         return Ok(Vec::new(walks.alloc()));
     }
-    let app = walks.app();
-    let weights = counted_weights(walks.alloc(), app, counted)?;
+    let weights = counted_weights(walks.alloc(), walks.app(), counted)?;
     walks.sums_above(&weights, h)
-}
-
-// Whether a section activates the task once at most.
-fn is_once(walks: &Walks, h: usize, j: usize, task: usize) -> bool
-    requires { task < length walks.now.config.tasks }
-    ensures { result ≡ is_once walks.now.config h j task }
-{
-    walks.task(task).non || h == j
 }
 
 fn times(asked: bool, once: bool, sum: Sum) -> Option<u32>
@@ -134,93 +121,56 @@ fn times(asked: bool, once: bool, sum: Sum) -> Option<u32>
     }
 }
 
-fn summed_makers(
-    walks: &Walks,
-    tops: &NamingTops,
-    h: usize,
-    j: usize,
-    activations: &[Sum],
-    settings: &[Sum],
-) -> Result<Vec<SectionMakings>>
-    requires tops { AreNamingTops walks.now.config walks.now.app j tops.now }
-    requires above { h < length walks.now.config.tasks }
-    requires named { j < length walks.now.config.tasks }
-    requires activations { AreSummed walks.now.config walks.now.app (counts.Activations j) h j
-        tops.now.either activations.now }
-    requires settings { AreSummed walks.now.config walks.now.app (counts.Settings j) h j
-        tops.now.setting settings.now }
-    ensures { IfOk result (λ row. AreEach (length walks.now.config.tasks) no_section_makings
-        (IsRunSectionMaking walks.now.config walks.now.app h j) row.items) }
-{
-    let mut row = Vec::new(walks.alloc());
-    for task in 0..walks.tasks() {
-        let either = numbered_top(tops.either.items(), task);
-        let setting = numbered_top(tops.setting.items(), task);
-        let activates = is_asked(walks, h, j, task, either);
-        let sets = is_asked(walks, h, j, task, setting);
-        let once = is_once(walks, h, j, task);
-        let makings = SectionMakings {
-            activations: times(activates, once, numbered_sum(activations, task)),
-            settings: times(sets, false, numbered_sum(settings, task)),
-        };
-        push(&mut row, makings)?;
-    }
-    Ok(row)
-}
-
-/// How often sections of lower tasks for h make j Ready, of each task.
-pub fn section_makers(
-    walks: &Walks,
-    tops: &NamingTops,
-    h: usize,
-    j: usize,
-) -> Result<Vec<SectionMakings>>
+// How often sections of lower tasks for h make j Ready, of each task.
+fn makers(walks: &Walks, tops: &NamingTops, h: usize, j: usize) -> Row<SectionMakings>
     requires tops { AreNamingTops walks.now.config walks.now.app j tops.now }
     requires above { h < length walks.now.config.tasks }
     requires named { j < length walks.now.config.tasks }
     requires few { length walks.now.config.tasks ≤ task_limit }
-    ensures { IfOk result (λ row. AreEach (length walks.now.config.tasks) no_section_makings
-        (IsRunSectionMaking walks.now.config walks.now.app h j) row.items) }
+    ensures { IfOk result (AreSectionMakingRow walks.now.config walks.now.app h j) }
 {
-    let activated = Counted::Activations(j as u32);
-    let activations = asked_sums(walks, h, j, tops.either.items(), activated)?;
-    let set = Counted::Settings(j as u32);
-    let settings = asked_sums(walks, h, j, tops.setting.items(), set)?;
-    summed_makers(walks, tops, h, j, &activations, &settings)
+    let (eithers, sets) = (tops.either.items(), tops.setting.items());
+    let activations = asked_sums(walks, h, j, eithers, Counted::Activations(j as u32))?;
+    let settings = asked_sums(walks, h, j, sets, Counted::Settings(j as u32))?;
+    let mut row = Vec::new(walks.alloc());
+    for task in 0..walks.tasks() {
+        let activates = is_asked(walks, h, j, task, numbered_top(eithers, task));
+        let signals = is_asked(walks, h, j, task, numbered_top(sets, task));
+        let once = walks.task(task).non || h == j;
+        let makings = SectionMakings {
+            activations: times(activates, once, numbered_sum(&activations, task)),
+            settings: times(signals, false, numbered_sum(&settings, task)),
+        };
+        push(&mut row, makings)?;
+    }
+    Ok(List::from_vec(row))
 }
 
-fn section_table(walks: &Walks, tops: &[NamingTops], h: usize) -> Result<Vec<List<SectionMakings>>>
+fn section_table(walks: &Walks, tops: &[NamingTops], h: usize) -> Table<SectionMakings>
     requires tops { AreAllNamingTops walks.now.config walks.now.app tops.now }
     requires above { h < length walks.now.config.tasks }
-    ensures { IfOk result (λ table. AreEach (length walks.now.config.tasks) []
-        (λ j. AreEach (length walks.now.config.tasks) no_section_makings
-        (IsRunSectionMaking walks.now.config walks.now.app h j)) table.items) }
+    ensures { IfOk result (AreSectionMakingTable walks.now.config walks.now.app h) }
 {
     let mut table = Vec::new(walks.alloc());
     for j in 0..walks.tasks() {
-        let row = section_makers(walks, numbered_tops(tops, j), h, j)?;
-        push(&mut table, List::from_vec(row))?;
+        let row = makers(walks, numbered_tops(tops, j), h, j)?;
+        push(&mut table, row)?;
     }
-    Ok(table)
+    Ok(List::from_vec(table))
 }
 
 /// The sections for each task, and what they make.
-pub fn levels(walks: &Walks, weights: &[BodyWeights], tops: &[NamingTops]) -> Result<Vec<Level>>
+pub fn levels(walks: &Walks, weights: &[BodyWeights], tops: &[NamingTops]) -> Row<Level>
     requires weigh { AllWeigh walks.now.app weights.now }
     requires fit { AreWeights walks.now.app weights.now }
     requires tops { AreAllNamingTops walks.now.config walks.now.app tops.now }
-    ensures { IfOk result (λ list. AreEach (length walks.now.config.tasks) no_level
-        (IsRunLevel walks.now.config walks.now.app weights.now) list.items) }
+    ensures { IfOk result (AreRunLevels walks.now.config walks.now.app weights.now) }
 {
     let mut list = Vec::new(walks.alloc());
     for h in 0..walks.tasks() {
         let sections = sections(walks, weights, h)?;
         let makings = section_table(walks, tops, h)?;
-        let level = Level {
-            sections: List::from_vec(sections),
-            makings: List::from_vec(makings),
-        };
-        push(&mut list, level)?;
+        push(&mut list, Level { sections, makings })?;
     }
-    Ok(list)
+    Ok(List::from_vec(list))
 }

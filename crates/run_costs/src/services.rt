@@ -1,10 +1,9 @@
 //! Which services tasks reach, by tops: whether walks come to what counts, under which ceiling. Which tasks come.
 ghost use Rattle.std.specs.Prelude.{◌≡◌, ◌<◌, [], length, get_or, IfOk, ◌+◌, ◌&&◌, true, false, ltb, Decides};
-ghost use Rattle.run_windows.specs.Costs.{no_services};
 ghost use Rattle.run_costs.specs.Services.{no_tops, AreNamingTops, AreAllNamingTops, AreServiceTops};
 ghost use Rattle.run_costs.specs.Services.{services_by, reaches};
-ghost use Rattle.run_costs.specs.CostsOf.{AreEach, AreServices};
-ghost use Rattle.run_costs.specs.Tops.{op_top, item_top, body_top, AreTops, AreTaskTops};
+ghost use Rattle.run_costs.specs.CostsOf.{AreEach, AreServiceRow, AreServiceTable};
+ghost use Rattle.run_costs.specs.Tops.{item_top, body_top, AreTops, AreTaskTops};
 ghost use Rattle.run_costs.specs.Coming.{SomeReaches, IsUsed, MayActivate, SomeExpires, IsMade, marked, AreInAll};
 ghost use Rattle.run_costs.specs.Coming.{AreComing, AreSettingTops, AreAllSettingTops, AreMakers, IsSettled};
 ghost use Rattle.run_costs.specs.Coming.{unmarked, HasMarked};
@@ -14,36 +13,33 @@ use bound_rules::{Body, is_marked, number_at};
 use load_text::{Entry, distance_of};
 use run_windows::Services;
 use sloth_base::{FIRST_COUNTER_LINE, Func, List, Op, Result, Service};
-use std::alloc::Global;
 use text_pieces::push;
 use walk_sums::graph::no_marks;
 use walk_sums::{Counted, Walks, is_ending_counted, numbered_body, numbered_function};
 
-/// How tasks make one task Ready: the tops of each of them.
+/// A list with an entry for each task, if there is memory.
+pub type Row<T> = Result<List<T>>;
+
+/// One of such lists.
+pub type Table<T> = Row<List<T>>;
+
+/// How tasks make one task Ready: the tops of each of them, by ActivateTask, ChainTask, either, and SetEvent.
 #[derive(Drop)]
 pub struct NamingTops {
-    /// By ActivateTask.
     pub activation: List<u64>,
-    /// By ChainTask.
     pub chain: List<u64>,
-    /// By either.
     pub either: List<u64>,
-    /// By SetEvent.
     pub setting: List<u64>,
 }
 
 fn naming_tops(walks: &Walks, named: u32) -> Result<NamingTops>
     ensures { IfOk result (AreNamingTops walks.now.config walks.now.app named) }
 {
-    let activation = task_tops(walks, Counted::CallsFor(Service::ActivateTask, named))?;
-    let chain = task_tops(walks, Counted::Chains(named))?;
-    let either = task_tops(walks, Counted::Activations(named))?;
-    let setting = task_tops(walks, Counted::Settings(named))?;
     Ok(NamingTops {
-        activation: List::from_vec(activation),
-        chain: List::from_vec(chain),
-        either: List::from_vec(either),
-        setting: List::from_vec(setting),
+        activation: task_tops(walks, Counted::CallsFor(Service::ActivateTask, named))?,
+        chain: task_tops(walks, Counted::Chains(named))?,
+        either: task_tops(walks, Counted::Activations(named))?,
+        setting: task_tops(walks, Counted::Settings(named))?,
     })
 }
 
@@ -69,16 +65,15 @@ fn reached_services(tops: &NamingTops, task: usize) -> Services
     }
 }
 
-fn naming_services(walks: &Walks, tops: &NamingTops, named: usize) -> Result<Vec<Services>>
+fn naming_services(walks: &Walks, tops: &NamingTops, named: usize) -> Row<Services>
     requires { AreNamingTops walks.now.config walks.now.app named tops.now }
-    ensures { IfOk result (λ row.
-        AreEach (length walks.now.config.tasks) no_services (AreServices walks.now.app named) row.items) }
+    ensures { IfOk result (AreServiceRow walks.now.config walks.now.app named) }
 {
     let mut row = Vec::new(walks.alloc());
     for task in 0..walks.tasks() {
         push(&mut row, reached_services(tops, task))?;
     }
-    Ok(row)
+    Ok(List::from_vec(row))
 }
 
 /// The tops by the task that is named.
@@ -90,25 +85,24 @@ pub fn numbered_tops(all: &[NamingTops], named: usize) -> &NamingTops
 }
 
 /// The services of all tasks, by the task that they name.
-pub fn services(walks: &Walks, all: &[NamingTops]) -> Result<Vec<List<Services>>>
+pub fn services(walks: &Walks, all: &[NamingTops]) -> Table<Services>
     requires { AreAllNamingTops walks.now.config walks.now.app all.now }
-    ensures { IfOk result (λ table. AreEach (length walks.now.config.tasks) []
-        (λ j. AreEach (length walks.now.config.tasks) no_services (AreServices walks.now.app j)) table.items) }
+    ensures { IfOk result (AreServiceTable walks.now.config walks.now.app) }
 {
     let mut table = Vec::new(walks.alloc());
     for named in 0..walks.tasks() {
         let row = naming_services(walks, numbered_tops(all, named), named)?;
-        push(&mut table, List::from_vec(row))?;
+        push(&mut table, row)?;
     }
-    Ok(table)
+    Ok(List::from_vec(table))
 }
 
-fn code_tops(walks: &Walks, code: u8) -> Result<Vec<u64>>
-    ensures { IfOk result (λ tops. AreServiceTops walks.now.config walks.now.app code tops.items) }
+fn code_tops(walks: &Walks, code: u8) -> Row<u64>
+    ensures { IfOk result (AreServiceTops walks.now.config walks.now.app code) }
 {
     match Service::from_code(code) {
         Some(service) => task_tops(walks, Counted::Calls(service)),
-        None => Ok(Vec::new(walks.alloc())),
+        None => Ok(List::from_vec(Vec::new(walks.alloc()))),
     }
 }
 
@@ -119,7 +113,7 @@ pub fn service_tops(walks: &Walks) -> Result<Vec<List<u64>>>
     let mut all = Vec::new(walks.alloc());
     for code in 0..16 {
         let tops = code_tops(walks, code)?;
-        push(&mut all, List::from_vec(tops))?;
+        push(&mut all, tops)?;
     }
     Ok(all)
 }
@@ -128,10 +122,8 @@ pub fn service_tops(walks: &Walks) -> Result<Vec<List<u64>>>
 pub fn reaches(all: &[List<u64>], service: Service, task: usize) -> bool
     ensures { result ≡ reaches all.now service task }
 {
-    match all.get(usize::from(service.code())) {
-        Some(tops) => 0 < numbered_top(tops.items(), task),
-        None => false,
-    }
+    let tops = all.get(usize::from(service.code()));
+    tops.is_some_and(|tops| 0 < numbered_top(tops.items(), task))
 }
 
 /// The top of this number; 0 behind the last one.
@@ -141,31 +133,22 @@ pub fn numbered_top(table: &[u64], number: usize) -> u64
     table.get(number).copied().unwrap_or(0)
 }
 
-fn op_top(counted: Counted, ceiling: u32, table: &[u64], op: Op) -> u64
-    ensures { result ≡ op_top counted ceiling table.now op }
+fn item_top(counted: Counted, func: &Func, body: &Body, table: &[u64], number: usize) -> u64
+    requires { number < length func.now.items }
+    ensures { result ≡ item_top counted func.now body.now table.now number }
 {
-    let own = u64::from(ceiling) + 1;
+    if !is_marked(body.reached.items(), number) {
+        return 0;
+    }
+    let own = u64::from(number_at(body.ceilings.items(), number)) + 1;
+    let op = func.items.items()[number].op;
     match op {
         Op::Invoke { func } => {
             let top = numbered_top(table, func.0 as usize);
             if top == 0 { 0 } else { top.max(own) }
         }
-        _ => {
-            let counts = is_ending_counted(counted, op);
-            if counts { own } else { 0 }
-        }
-    }
-}
-
-fn item_top(counted: Counted, func: &Func, body: &Body, table: &[u64], number: usize) -> u64
-    requires { number < length func.now.items }
-    ensures { result ≡ item_top counted func.now body.now table.now number }
-{
-    if is_marked(body.reached.items(), number) {
-        let ceiling = number_at(body.ceilings.items(), number);
-        op_top(counted, ceiling, table, func.items.items()[number].op)
-    } else {
-        0
+        _ if is_ending_counted(counted, op) => own,
+        _ => 0,
     }
 }
 
@@ -179,19 +162,13 @@ fn body_top(counted: Counted, func: &Func, body: &Body, table: &[u64]) -> u64
     top
 }
 
-fn none(alloc: Global, count: usize) -> Result<Vec<u64>>
-    ensures { IfOk result (λ table. length table.items ≡ count) }
-{
-    Ok(Vec::from_elem(alloc, 0, count)?)
-}
-
 /// For each function one more than the greatest ceiling under which its walks come to what counts, 0 where none does.
 fn function_tops(walks: &Walks, counted: Counted) -> Result<Vec<u64>>
     ensures { IfOk result (λ table. AreTops walks.now.config walks.now.app counted table.items) }
 {
     let app = walks.app();
     let bodies = walks.bodies();
-    let mut table = none(walks.alloc(), app.funcs.items().len())?;
+    let mut table = Vec::from_elem(walks.alloc(), 0, app.funcs.items().len())?;
     for number in walks.order() {
         let func = numbered_function(app, *number);
         let body = numbered_body(bodies, *number);
@@ -202,38 +179,35 @@ fn function_tops(walks: &Walks, counted: Counted) -> Result<Vec<u64>>
 }
 
 /// The same for each task.
-pub fn task_tops(walks: &Walks, counted: Counted) -> Result<Vec<u64>>
-    ensures { IfOk result (λ tops. AreTaskTops walks.now.config walks.now.app counted tops.items) }
+pub fn task_tops(walks: &Walks, counted: Counted) -> Row<u64>
+    ensures { IfOk result (AreTaskTops walks.now.config walks.now.app counted) }
 {
     let table = function_tops(walks, counted)?;
     let mut tops = Vec::new(walks.alloc());
     for task in 0..walks.tasks() {
         push(&mut tops, numbered_top(&table, walks.body(task)))?;
     }
-    Ok(tops)
+    Ok(List::from_vec(tops))
 }
 
-/// Which tasks set an alarm: the tops of each of them.
+/// Which tasks set an alarm: the tops of each of them, by SetRelAlarm and by SetAbsAlarm.
 #[derive(Drop)]
 pub struct SettingTops {
-    /// By SetRelAlarm.
     pub relative: List<u64>,
-    /// By SetAbsAlarm.
     pub absolute: List<u64>,
 }
 
 fn setting_tops(walks: &Walks, alarm: u32) -> Result<SettingTops>
     ensures { IfOk result (AreSettingTops walks.now.config walks.now.app alarm) }
 {
-    let relative = task_tops(walks, Counted::CallsFor(Service::SetRelAlarm, alarm))?;
-    let absolute = task_tops(walks, Counted::CallsFor(Service::SetAbsAlarm, alarm))?;
     Ok(SettingTops {
-        relative: List::from_vec(relative),
-        absolute: List::from_vec(absolute),
+        relative: task_tops(walks, Counted::CallsFor(Service::SetRelAlarm, alarm))?,
+        absolute: task_tops(walks, Counted::CallsFor(Service::SetAbsAlarm, alarm))?,
     })
 }
 
-fn all_setting_tops(walks: &Walks) -> Result<Vec<SettingTops>>
+/// Those of all alarms.
+pub fn all_setting_tops(walks: &Walks) -> Result<Vec<SettingTops>>
     ensures { IfOk result (λ all. AreAllSettingTops walks.now.config walks.now.app all.items) }
 {
     let config = walks.config();
@@ -285,23 +259,18 @@ fn is_used(walks: &Walks, marks: &[bool], settings: &[SettingTops], alarm: usize
             || is_reached(walks, marks, tops.absolute.items(), absolute))
 }
 
-fn may_activate(walks: &Walks, load: &[Entry], alarm: usize, named: usize) -> bool
-    requires { alarm < length walks.now.config.alarms }
-    ensures { Decides result (MayActivate walks.now.config load.now alarm named) }
-{
-    let declared = &walks.config().alarms.items()[alarm];
-    distance_of(load, FIRST_COUNTER_LINE + declared.counter as u8).is_some()
-        && (!sets_events(&declared.action) && action_task(&declared.action) as usize == named)
-}
-
-// Whether an alarm that is used activates the task.
+// Whether an alarm that is used activates the task, on a counter that arrives.
 fn expires(walks: &Walks, makers: &Makers, marks: &[bool], alarm: usize, named: usize) -> bool
     requires makers { AreMakers walks.now.config walks.now.app makers.now.naming.now makers.now.settings.now }
     requires inside { alarm < length walks.now.config.alarms }
     ensures { Decides result (MayActivate walks.now.config makers.now.load.now alarm named
         × IsUsed walks.now.config walks.now.app (marked marks.now) alarm) }
 {
-    may_activate(walks, makers.load, alarm, named) && is_used(walks, marks, makers.settings, alarm)
+    let declared = &walks.config().alarms.items()[alarm];
+    let arrives = distance_of(makers.load, FIRST_COUNTER_LINE + declared.counter as u8).is_some();
+    let activates = !sets_events(&declared.action)
+        && action_task(&declared.action) as usize == named;
+    arrives && activates && is_used(walks, marks, makers.settings, alarm)
 }
 
 fn some_expires(walks: &Walks, makers: &Makers, marks: &[bool], named: usize) -> bool
@@ -366,15 +335,16 @@ fn pass(walks: &Walks, makers: &Makers, marks: &mut [bool]) -> bool
     grown
 }
 
-fn settled_marks<'a>(
+/// Which tasks come.
+pub fn coming<'a>(
     walks: &Walks,
     load: &'a [Entry],
     naming: &'a [NamingTops],
     settings: &'a [SettingTops],
-) -> Result<Vec<bool>>
+) -> Row<bool>
     requires naming { AreAllNamingTops walks.now.config walks.now.app naming.now }
     requires settings { AreAllSettingTops walks.now.config walks.now.app settings.now }
-    ensures { IfOk result (λ marks. AreComing walks.now.config walks.now.app load.now marks.items) }
+    ensures { IfOk result (AreComing walks.now.config walks.now.app load.now) }
 {
     let mut marks = no_marks(walks.alloc(), walks.tasks())?;
     let makers = Makers {
@@ -384,16 +354,7 @@ fn settled_marks<'a>(
     };
     loop {
         if !pass(walks, &makers, &mut marks) {
-            return Ok(marks);
+            return Ok(List::from_vec(marks));
         }
     }
-}
-
-/// Which tasks come.
-pub fn coming(walks: &Walks, load: &[Entry], naming: &[NamingTops]) -> Result<Vec<bool>>
-    requires { AreAllNamingTops walks.now.config walks.now.app naming.now }
-    ensures { IfOk result (λ marks. AreComing walks.now.config walks.now.app load.now marks.items) }
-{
-    let settings = all_setting_tops(walks)?;
-    settled_marks(walks, load, naming, &settings)
 }

@@ -5,7 +5,7 @@ use Rattle.std.proofs.lemmas.List.{get_or_past}
 use Rattle.sloth_base.specs.Named.{function, no_function}
 use Rattle.sloth_base.specs.declared.app.App.{App}
 use Rattle.sloth_base.specs.declared.app.Func.{Func}
-use Rattle.bound_rules.specs.declared.weights.BodyWeights.{BodyWeights}
+use Rattle.bound_rules.specs.declared.bound.BodyWeights.{BodyWeights}
 use Rattle.sim_induction.specs.Items.{length_of, AreLengths}
 use Rattle.run_counts.specs.Counts.{AreCountsBy}
 use Rattle.run_counts.proofs.CountsFit.{counts_fit}

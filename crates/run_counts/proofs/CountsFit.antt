@@ -12,7 +12,7 @@ use Rattle.sloth_base.specs.Named.{function, operation}
 use Rattle.code_lengths.specs.LongestPaths.{leaving_path}
 use Rattle.osek_blocking.specs.Walks.{chains_itself}
 use Rattle.sim_induction.specs.Items.{length_of, served_counts, going_counts, ending_counts}
-use Rattle.bound_rules.specs.declared.weights.BodyWeights.{BodyWeights}
+use Rattle.bound_rules.specs.declared.bound.BodyWeights.{BodyWeights}
 use Rattle.bound_rules.specs.Weights.{no_weights, going_weight, ending_weight}
 use Rattle.walk_sums.specs.Activations.{is_plain}
 use Rattle.walk_sums.specs.Weights.{AreWeights}

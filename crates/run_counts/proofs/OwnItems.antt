@@ -18,7 +18,7 @@ use Rattle.osek_scheduler.specs.Valid.{IsValid}
 use Rattle.osek_scheduler.proofs.Facts.{Facts, facts}
 use Rattle.osek_scheduler.proofs.Leading.{follows_leads}
 use Rattle.osek_scheduler.proofs.Steps.{step_valid, opening_valid}
-use Rattle.bound_rules.specs.declared.weights.BodyWeights.{BodyWeights}
+use Rattle.bound_rules.specs.declared.bound.BodyWeights.{BodyWeights}
 use Rattle.sim_induction.specs.Items.{length_of}
 use Rattle.sim_induction.specs.Pace.{ItemSizes}
 use Rattle.sim_induction.proofs.BodyLengths.{short}

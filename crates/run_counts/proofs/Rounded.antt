@@ -26,7 +26,7 @@ use Rattle.osek_scheduler.proofs.Steps.{step_valid, opening_valid}
 use Rattle.osek_blocking.specs.Walks.{chains_itself}
 use Rattle.osek_blocking.proofs.Frames.{KeepsOthers}
 use Rattle.osek_blocking.proofs.FrameEffects.{frame_effect}
-use Rattle.bound_rules.specs.declared.weights.BodyWeights.{BodyWeights}
+use Rattle.bound_rules.specs.declared.bound.BodyWeights.{BodyWeights}
 use Rattle.bound_rules.specs.Weights.{going_weight, ending_weight}
 use Rattle.sim_induction.specs.Events.{call_counts, left_counts}
 use Rattle.sim_induction.specs.Items.{served_counts, going_counts, ending_counts}

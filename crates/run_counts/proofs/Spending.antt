@@ -23,7 +23,7 @@ use Rattle.osek_blocking.specs.Kept.{lower_events}
 use Rattle.osek_blocking.specs.Spent.{spent_counts}
 use Rattle.osek_blocking.proofs.FrameEffects.{frame_effect, leads_placed}
 use Rattle.osek_blocking.proofs.Placed.{Placed, step_placed, opening_placed}
-use Rattle.bound_rules.specs.declared.weights.BodyWeights.{BodyWeights}
+use Rattle.bound_rules.specs.declared.bound.BodyWeights.{BodyWeights}
 use Rattle.bound_rules.specs.Weights.{going_weight}
 use Rattle.sim_induction.specs.Pace.{ItemSizes}
 use Rattle.sim_induction.specs.Paced.{ArePacedTo, KeepsPace}

@@ -19,7 +19,7 @@ use Rattle.osek_scheduler.specs.Valid.{IsValid}
 use Rattle.osek_scheduler.proofs.Facts.{Facts, facts}
 use Rattle.osek_scheduler.proofs.Steps.{step_valid}
 use Rattle.osek_blocking.specs.Pace.{takes_line}
-use Rattle.bound_rules.specs.declared.weights.BodyWeights.{BodyWeights}
+use Rattle.bound_rules.specs.declared.bound.BodyWeights.{BodyWeights}
 use Rattle.sim_induction.specs.Pace.{ItemSizes, paced_counts}
 use Rattle.sim_induction.specs.Spent.{front_counts, spent_behind, SpendsWithin, AreSpentTo}
 use Rattle.sim_induction.proofs.Spending.{none_left, none_entered}

@@ -10,7 +10,7 @@ use Rattle.code_lengths.specs.LongestPaths.{tick_path}
 use Rattle.osek_scheduler.specs.State.{Frame, System, task}
 use Rattle.osek_scheduler.specs.Steps.{OsekStep}
 use Rattle.osek_scheduler.proofs.Facts.{Facts}
-use Rattle.bound_rules.specs.declared.weights.BodyWeights.{BodyWeights}
+use Rattle.bound_rules.specs.declared.bound.BodyWeights.{BodyWeights}
 use Rattle.bound_rules.specs.Weights.{ending_weight}
 use Rattle.sim_induction.specs.Events.{has_frames, left_counts, call_counts, enter_counts, stretch_counts}
 use Rattle.sim_induction.specs.Pace.{ItemSizes, next_size_of}

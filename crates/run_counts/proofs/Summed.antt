@@ -29,7 +29,7 @@ use Rattle.osek_blocking.proofs.Raised.{at_position}
 use Rattle.osek_blocking.proofs.Reached.{IsReached, walk_on}
 use Rattle.osek_blocking.proofs.Placed.{Advances}
 use Rattle.osek_blocking.proofs.Window.{LowerPair, Waits, Rests, View, works, departs, keeps, view, Blocked, goes, Onward, onward, rests_all}
-use Rattle.bound_rules.specs.declared.weights.BodyWeights.{BodyWeights}
+use Rattle.bound_rules.specs.declared.bound.BodyWeights.{BodyWeights}
 use Rattle.bound_rules.specs.Weights.{going_weight}
 use Rattle.walk_sums.specs.Weights.{going_at, ending_at, sum_of}
 use Rattle.walk_sums.specs.Told.{NoneIsAbove}

@@ -25,7 +25,7 @@ use Rattle.osek_blocking.proofs.Raised.{at_position}
 use Rattle.osek_blocking.proofs.Reached.{IsReached}
 use Rattle.osek_blocking.proofs.Stepping.{position_of}
 use Rattle.osek_blocking.proofs.Window.{LowerPair, Waits}
-use Rattle.bound_rules.specs.declared.weights.BodyWeights.{BodyWeights}
+use Rattle.bound_rules.specs.declared.bound.BodyWeights.{BodyWeights}
 use Rattle.bound_rules.specs.Weights.{going_weight, ending_weight}
 use Rattle.walk_sums.specs.Weights.{ending_at}
 use Rattle.sim_induction.specs.Pace.{ItemSizes, paced_counts}

@@ -18,7 +18,7 @@ use Rattle.osek_scheduler.specs.Runs.{AreStepsTo}
 use Rattle.osek_blocking.specs.Kept.{is_lower, lower_events}
 use Rattle.osek_blocking.specs.Spent.{spent_counts}
 use Rattle.osek_blocking.proofs.Stepping.{position_of}
-use Rattle.bound_rules.specs.declared.weights.BodyWeights.{BodyWeights}
+use Rattle.bound_rules.specs.declared.bound.BodyWeights.{BodyWeights}
 use Rattle.bound_rules.specs.Weights.{going_weight}
 use Rattle.walk_sums.specs.Weights.{going_at}
 use Rattle.sim_induction.specs.Events.{call_counts}

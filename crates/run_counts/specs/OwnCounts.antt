@@ -13,7 +13,7 @@ use Rattle.osek_scheduler.specs.State.{task}
 use Rattle.osek_scheduler.specs.InTime.{InTime}
 use Rattle.osek_scheduler.specs.Runs.{OsekRun}
 use Rattle.osek_blocking.specs.Pace.{takes_line}
-use Rattle.bound_rules.specs.declared.weights.BodyWeights.{BodyWeights}
+use Rattle.bound_rules.specs.declared.bound.BodyWeights.{BodyWeights}
 use Rattle.sim_induction.specs.Items.{length_of, AreLengths}
 use Rattle.sim_induction.specs.Pace.{ItemSizes, next_size_of, paced_counts}
 use Rattle.run_counts.specs.Counts.{AreCountsBy}

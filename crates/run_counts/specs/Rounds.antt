@@ -11,7 +11,7 @@ use Rattle.sloth_base.specs.declared.service.Service.TheVariants as service
 use Rattle.code_rules.specs.WellFormed.{WellFormed}
 use Rattle.osek_scheduler.specs.State.{Frame, System, task}
 use Rattle.osek_scheduler.specs.Runs.{OsekRun}
-use Rattle.bound_rules.specs.declared.weights.BodyWeights.{BodyWeights}
+use Rattle.bound_rules.specs.declared.bound.BodyWeights.{BodyWeights}
 use Rattle.bound_rules.specs.Weights.{going_weight, ending_weight}
 use Rattle.sim_induction.specs.Items.{ending_counts}
 use Rattle.sim_induction.specs.Pace.{ItemSizes}

@@ -11,7 +11,7 @@ use Rattle.osek_blocking.specs.Blocking.{events_up_to_entry, MakesReady}
 use Rattle.osek_blocking.specs.Pace.{last_count}
 use Rattle.osek_blocking.specs.Sections.{IsSection, IsLower}
 use Rattle.osek_blocking.specs.Spent.{spent_counts}
-use Rattle.bound_rules.specs.declared.weights.BodyWeights.{BodyWeights}
+use Rattle.bound_rules.specs.declared.bound.BodyWeights.{BodyWeights}
 use Rattle.bound_rules.specs.Weights.{going_weight, ending_weight}
 use Rattle.walk_sums.specs.Told.{NoneIsAbove}
 use Rattle.sim_induction.specs.Items.{going_counts}

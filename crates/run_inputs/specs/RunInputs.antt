@@ -8,9 +8,9 @@ use Rattle.sloth_base.specs.declared.refusal.Refusal.{Refusal}
 use Rattle.sloth_base.specs.Order.{IsLeast, NoFault}
 use Rattle.image_file.specs.ImageText.{ImageText}
 use Rattle.image_file.specs.Faults.{IsFirstImageFault}
-use Rattle.image_file.specs.declared.fault.ImageFault.{ImageFault}
-use Rattle.image_file.specs.declared.fault.FileError.{FileError}
-use Rattle.image_file.specs.declared.fault.FileError.TheVariants as image_error
+use Rattle.image_file.specs.declared.read.ImageFault.{ImageFault}
+use Rattle.image_file.specs.declared.read.FileError.{FileError}
+use Rattle.image_file.specs.declared.read.FileError.TheVariants as image_error
 use Rattle.trace_text.specs.ArrivalsText.{ArrivalsFault, arrivals_in}
 use Rattle.run_inputs.specs.declared.inputs.Unread.{Unread}
 use Rattle.run_inputs.specs.declared.inputs.Unread.TheVariants as unread

@@ -27,7 +27,7 @@ use Rattle.response_text.specs.declared.task_text.Response.{Response}
 use Rattle.response_text.specs.Lines.{response_at}
 use Rattle.response_text.specs.ResponseText.{AreResponses}
 use Rattle.response_text.proofs.Keeping.{runs_keep}
-use Rattle.run_costs.specs.declared.record.RunCosts.{RunCosts}
+use Rattle.run_windows.specs.declared.costs.RunCosts.{RunCosts}
 use Rattle.run_costs.specs.RunCosts.{AreRunCosts}
 use Rattle.run_costs.specs.RunRecord.{IsRunRecord}
 use Rattle.run_responses.specs.Meeting.{AreCutTasks}
@@ -51,7 +51,7 @@ use Rattle.sim_laws.specs.TaskStates.{HasTaskStates}
 use Rattle.rv32_expand.specs.InPlace.{ItemsInPlace}
 use Rattle.sloth_base.specs.DeclaredNames.{task_names, counter_names}
 use Rattle.sloth_base.specs.ImageRange.{InFormat}
-use Rattle.sloth_base.specs.declared.places.Bounds.{Bounds}
+use Rattle.sloth_base.specs.declared.limits.Bounds.{Bounds}
 use Rattle.sloth_build.specs.ImageOf.{IsOfPlannedMap}
 use Rattle.stack_bounds.specs.Bounds.{AreBounds}
 use Rattle.sloth_runner.proofs.Turning.{controller-lines}

@@ -18,7 +18,7 @@ use Rattle.load_text.specs.Loads.{KeepDistances}
 use Rattle.sim_induction.specs.Sound.{events_of}
 use Rattle.run_counts.specs.Stages.{run_stages}
 use Rattle.response_laws.specs.Works.{KeepsWork}
-use Rattle.run_costs.specs.declared.record.RunCosts.{RunCosts}
+use Rattle.run_windows.specs.declared.costs.RunCosts.{RunCosts}
 use Rattle.run_costs.specs.RunRecord.{IsRunRecord}
 use Rattle.response_text.specs.declared.task_text.Response.{Response}
 use Rattle.response_text.specs.Inputs as inputs

@@ -1,11 +1,13 @@
 //! The lines of a run beside its load. The longest responses that are seen in a run.
-ghost use Rattle.std.specs.Prelude.{List as Items, ◌≡◌, ◌<◌, ◌++◌, ℕ, Some, true, false, length, IfOk, OnOk, ◌&&◌, ◌||◌, cond};
+ghost use Rattle.std.specs.Prelude.{List as Items, ◌≡◌, ◌<◌, ◌++◌, ℕ, Some, true, false, length, IfOk, OnOk, ◌&&◌};
+ghost use Rattle.std.specs.Prelude.{◌||◌, cond};
 ghost use Rattle.sloth_base.specs.ConfigRange.{InRange};
 ghost use Rattle.sloth_base.specs.Named.{counter_declaration};
 ghost use Rattle.code_rules.specs.WellFormed.{WellFormed};
 ghost use Rattle.load_text.specs.Loads.{work};
 ghost use Rattle.response_text.specs.Lines.{number_words, made_words};
-ghost use Rattle.run_load.specs.RunLines.{owner_name, gap_words, arrivals_line, work_line, told_words, seen_line, seen_lines, tick_line, tick_lines, cuts_of, told_run};
+ghost use Rattle.run_load.specs.RunLines.{owner_name, gap_words, arrivals_line, work_line, told_words, seen_line};
+ghost use Rattle.run_load.specs.RunLines.{seen_lines, tick_line, tick_lines, cuts_of, told_run};
 ghost use Rattle.run_load.specs.Seen.{longest_seen, end_of_response, response, is_behind, longest};
 ghost use Rattle.run_load.specs.Soon.{line_at};
 ghost use Rattle.run_load.specs.Work.{above_limit, above_among};
@@ -76,7 +78,8 @@ fn push_soon(
     number: usize,
     soon: &EarlyArrival,
 ) -> Result<()>
-    ensures { (arr : Items ℕ) → number ≡ line_at arr soon.now.place → OnOk result (text.new.items ≡ text.old.items ++ arrivals_line config.now load.now arr (Some soon.now)) }
+    ensures { (arr : Items ℕ) → number ≡ line_at arr soon.now.place
+        → OnOk result (text.new.items ≡ text.old.items ++ arrivals_line config.now load.now arr (Some soon.now)) }
 {
     line!(text; Word(b"arrival "), Count(number), Word(b" "), Word(owner_name(config, soon.line)))?;
     push_gap(text, distance_of(load, soon.line), soon.gap)?;
@@ -162,9 +165,13 @@ struct TaskRun {
 fn task_run(alloc: Global, run: &LoadRun, task: u32, cuts: bool) -> Result<TaskRun>
     requires well_formed { WellFormed run.now.config.now run.now.app.now }
     requires declared { task < length run.now.config.now.tasks }
-    ensures all { IfOk result (λ t. t.all ≡ longest_seen run.now.config.now run.now.app.now task true run.now.events.now) }
-    ensures behind { IfOk result (λ t. t.behind ≡ longest_seen run.now.config.now run.now.app.now task false run.now.events.now) }
-    ensures above { IfOk result (λ t. t.above ≡ above_limit run.now.config.now run.now.app.now cuts task run.now.events.now (work run.now.load.now task)) }
+    ensures all { IfOk result
+        (λ t. t.all ≡ longest_seen run.now.config.now run.now.app.now task true run.now.events.now) }
+    ensures behind { IfOk result
+        (λ t. t.behind ≡ longest_seen run.now.config.now run.now.app.now task false run.now.events.now) }
+    ensures above { IfOk result
+        (λ t. t.above ≡ above_limit run.now.config.now run.now.app.now cuts task run.now.events.now
+        (work run.now.load.now task)) }
 {
     let watched = watch(alloc, run.config, run.app, run.events, task)?;
     let above = match work_of(run.load, task as u8) {
@@ -198,9 +205,13 @@ impl Drop for Seen {
 
 fn seen_tasks(alloc: Global, run: &LoadRun, responses: &[Response]) -> Result<Seen>
     requires well_formed { WellFormed run.now.config.now run.now.app.now }
-    ensures text { IfOk result (λ seen. seen.text.items ≡ seen_lines run.now.config.now run.now.app.now run.now.events.now responses.now (length run.now.config.now.tasks)) }
+    ensures text { IfOk result
+        (λ seen. seen.text.items
+        ≡ seen_lines run.now.config.now run.now.app.now run.now.events.now responses.now
+        (length run.now.config.now.tasks)) }
     ensures above { IfOk result (λ seen. seen.above
-        ≡ above_among run.now.config.now run.now.app.now run.now.load.now (cuts_of run.now.costs.now) run.now.events.now (length run.now.config.now.tasks)) }
+        ≡ above_among run.now.config.now run.now.app.now run.now.load.now
+        (cuts_of run.now.costs.now) run.now.events.now (length run.now.config.now.tasks)) }
 {
     let mut text = Vec::new(alloc);
     let mut above = None;
@@ -229,7 +240,10 @@ fn push_tick(text: &mut Vec<u8>, run: &LoadRun, tick: Option<u32>, counter: u32)
 // The lines of all counters.
 fn push_ticks(text: &mut Vec<u8>, run: &LoadRun, tick: Option<u32>) -> Result<()>
     requires { InRange run.now.config.now }
-    ensures { OnOk result (text.new.items ≡ text.old.items ++ tick_lines run.now.config.now run.now.load.now run.now.events.now tick (length run.now.config.now.counters)) }
+    ensures { OnOk result
+        (text.new.items ≡ text.old.items
+        ++ tick_lines run.now.config.now run.now.load.now run.now.events.now tick
+        (length run.now.config.now.counters)) }
 {
     for counter in 0..run.config.counters.items().len() as u32 {
         push_tick(text, run, tick, counter)?;
@@ -247,7 +261,9 @@ pub fn told_run(
     tick: Option<u32>,
 ) -> Result<ToldRun>
     requires well_formed { WellFormed run.now.config.now run.now.app.now }
-    ensures { IfOk result (λ told. told ≡ told_run run.now.config.now run.now.app.now run.now.load.now run.now.costs.now arr.now arrivals.now run.now.events.now responses.now tick) }
+    ensures { IfOk result
+        (λ told. told ≡ told_run run.now.config.now run.now.app.now run.now.load.now run.now.costs.now arr.now
+        arrivals.now run.now.events.now responses.now tick) }
 {
     let soon = first_soon(run.load, arrivals);
     let seen = seen_tasks(alloc, run, responses)?;

@@ -16,7 +16,8 @@ fn is_below(config: &Config, store: &Store, t: usize, u: usize) -> bool
     requires count { length store.now.tasks ≡ length config.now.tasks }
     requires first { t < length config.now.tasks }
     requires second { u < length config.now.tasks }
-    ensures { result ≡ (not (is_active (task_of store.now u).state) || leb (rank config.now store.now u) (rank config.now store.now t)) }
+    ensures { result ≡ (not (is_active (task_of store.now u).state) || leb (rank config.now store.now u)
+        (rank config.now store.now t)) }
 {
     !is_active(store.task(u).state()) || rank(config, store, u) <= rank(config, store, t)
 }
@@ -25,7 +26,9 @@ fn is_below(config: &Config, store: &Store, t: usize, u: usize) -> bool
 fn is_greatest(config: &Config, store: &Store, t: usize) -> bool
     requires count { length store.now.tasks ≡ length config.now.tasks }
     requires declared { t < length config.now.tasks }
-    ensures { result ≡ all_below (length config.now.tasks) (λ u. not (is_active (task_of store.now u).state) || leb (rank config.now store.now u) (rank config.now store.now t)) }
+    ensures { result ≡ all_below (length config.now.tasks)
+        (λ u. not (is_active (task_of store.now u).state) || leb (rank config.now store.now u)
+        (rank config.now store.now t)) }
 {
     for u in 0..config.tasks.items().len() {
         if !is_below(config, store, t, u) {

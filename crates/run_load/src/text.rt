@@ -17,11 +17,12 @@ use call_graph::{Ranks, ranks};
 use load_text::Entry;
 use response_text::responses;
 use response_text::text::load_of;
-use run_costs::{RunCosts, run_costs};
+use run_costs::run_costs;
 use run_inputs::config_arrivals;
 use run_responses::tick_number;
+use run_windows::RunCosts;
 use sloth_base::{App, Arrival, BuildError, Config, Image, NoMemory, Result};
-use sloth_build::building::image;
+use sloth_build::gathering::image;
 use sloth_runner::run_events;
 use sloth_source::{Source, read};
 use std::alloc::Global;
@@ -60,11 +61,12 @@ fn told_image(
     requires arrivals { AreArrivals (owners_in source.now.config) arrivals.now }
     requires few { n ≤ count_limit }
     requires built { IsBuilt source.now.config source.now.app image.now }
-    ensures { IfOk result (λ told. HasToldRun source.now.config source.now.app load.now arr.now arrivals.now image.now n told) }
+    ensures { IfOk result
+        (λ told. HasToldRun source.now.config source.now.app load.now arr.now arrivals.now image.now n told) }
 {
     let found = costs(alloc, &source.config, &source.app, load)?;
-    let responses = responses(alloc, found.longest, found.late, &found.costs)?;
-    let tick = tick_number(alloc, found.longest, found.late, &found.costs)?;
+    let responses = responses(alloc, &found)?;
+    let tick = tick_number(alloc, &found)?;
     let events = run_events(alloc, image, arrivals, n)?;
     let run = LoadRun {
         config: &source.config,

@@ -27,7 +27,7 @@ use Rattle.osek_scheduler.specs.Apart.{static_priority}
 use Rattle.osek_scheduler.proofs.Facts.{Facts}
 use Rattle.osek_blocking.specs.Walks.{Position, chains_itself, IsWalk}
 use Rattle.osek_blocking.specs.Sections.{priority_at, operation_at, IsLower, IsSection}
-use Rattle.bound_rules.specs.declared.weights.BodyWeights.{BodyWeights}
+use Rattle.bound_rules.specs.declared.bound.BodyWeights.{BodyWeights}
 use Rattle.bound_rules.specs.Weights.{no_weights}
 use Rattle.run_counts.specs.Counts.{AreBodyCounts}
 use Rattle.walk_sums.specs.Weights.{going_at, ending_at, sum_of}
@@ -40,8 +40,8 @@ use Rattle.walk_sums.specs.Rounds.{Reaches, is_wait}
 use Rattle.walk_sums.specs.Counted.{one_if, calls, calls_for, is_ending_counted, counted_weights}
 use Rattle.walk_sums.specs.Told.{IsToldSum}
 use Rattle.run_windows.specs.declared.costs.Costs.{Costs}
-use Rattle.run_windows.specs.declared.window.Start.{Start}
-use Rattle.run_windows.specs.declared.window.Start.TheVariants as start
+use Rattle.run_windows.specs.declared.costs.Start.{Start}
+use Rattle.run_windows.specs.declared.costs.Start.TheVariants as start
 use Rattle.run_windows.specs.Costs.{reckoned, task, comes, joins, making, section, lesser, section_counts, section_making}
 use Rattle.run_windows.specs.Windows.{Numbers, is_lower, is_below, is_boot, greater, begun_by, IsSolution}
 use Rattle.run_costs.specs.Sections.{IsRaised, DoesRaised}

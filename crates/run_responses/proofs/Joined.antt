@@ -12,13 +12,13 @@ use Rattle.load_text.specs.declared.load_line.Entry.{Entry}
 use Rattle.osek_scheduler.specs.Apart.{static_priority}
 use Rattle.osek_scheduler.proofs.Facts.{Facts}
 use Rattle.osek_blocking.specs.Sections.{operation_at, IsLower}
-use Rattle.bound_rules.specs.declared.weights.BodyWeights.{BodyWeights}
+use Rattle.bound_rules.specs.declared.bound.BodyWeights.{BodyWeights}
 use Rattle.walk_sums.specs.Rounds.{is_wait}
 use Rattle.walk_sums.specs.Counted.{calls}
 use Rattle.run_windows.specs.declared.costs.TaskCosts.{TaskCosts}
 use Rattle.run_windows.specs.declared.costs.Costs.{Costs}
-use Rattle.run_windows.specs.declared.window.Start.{Start}
-use Rattle.run_windows.specs.declared.window.Start.TheVariants as start
+use Rattle.run_windows.specs.declared.costs.Start.{Start}
+use Rattle.run_windows.specs.declared.costs.Start.TheVariants as start
 use Rattle.run_windows.specs.Costs.{reckoned, task, comes, making, section, joins, no_task}
 use Rattle.run_windows.specs.Windows.{is_lower, is_left_out, is_below, greater, round_made}
 use Rattle.run_windows.specs.RunWindows.{is_joined, is_counted, is_making_counted, longest_round, AreTold}

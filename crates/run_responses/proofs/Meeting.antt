@@ -15,7 +15,7 @@ use Rattle.load_text.specs.declared.load_line.Form.TheVariants as form
 use Rattle.load_text.specs.LoadText.{is_of}
 use Rattle.load_text.specs.Loads.{said, IsNumber}
 use Rattle.run_windows.specs.declared.costs.Costs.{Costs}
-use Rattle.run_windows.specs.declared.window.Start.{Start}
+use Rattle.run_windows.specs.declared.costs.Start.{Start}
 use Rattle.run_windows.specs.Costs.{task, comes}
 use Rattle.run_windows.specs.Windows.{Numbers, none_made, is_boot, is_target_made, IsSolution}
 use Rattle.response_laws.specs.Demand

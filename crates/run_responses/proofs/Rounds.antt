@@ -14,7 +14,7 @@ use Rattle.osek_scheduler.specs.Apart.{static_priority}
 use Rattle.osek_scheduler.proofs.Facts.{Facts}
 use Rattle.osek_blocking.specs.Walks.{Position, AreConsecutive, IsWalk}
 use Rattle.osek_blocking.specs.Sections.{operation_at}
-use Rattle.bound_rules.specs.declared.weights.BodyWeights.{BodyWeights}
+use Rattle.bound_rules.specs.declared.bound.BodyWeights.{BodyWeights}
 use Rattle.bound_rules.specs.Weights.{no_weights, going_weight, ending_weight}
 use Rattle.run_counts.specs.Counts.{AreBodyCounts, AreCounts}
 use Rattle.walk_sums.specs.Weights.{going_at, ending_at, sum_of}
@@ -22,7 +22,7 @@ use Rattle.sim_induction.specs.Events.{enter_counts}
 use Rattle.code_lengths.specs.LongestPaths.{entry_path, tick_path}
 use Rattle.walk_sums.specs.declared.sections.Sum.{Sum}
 use Rattle.walk_sums.specs.declared.sections.Sum.TheVariants as sum
-use Rattle.walk_sums.specs.declared.tasks.RoundSums.{RoundSums}
+use Rattle.walk_sums.specs.declared.sections.RoundSums.{RoundSums}
 use Rattle.walk_sums.specs.declared.counted.Counted.{Counted}
 use Rattle.walk_sums.specs.declared.counted.Counted.TheVariants as counts
 use Rattle.walk_sums.specs.Rounds

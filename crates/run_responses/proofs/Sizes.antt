@@ -4,7 +4,7 @@ use Rattle.sloth_base.specs.declared.config.Config.{Config}
 use Rattle.sloth_base.specs.declared.app.App.{App}
 use Rattle.code_rules.specs.WellFormed.{WellFormed}
 use Rattle.osek_scheduler.proofs.Facts.{facts}
-use Rattle.bound_rules.specs.declared.weights.BodyWeights.{BodyWeights}
+use Rattle.bound_rules.specs.declared.bound.BodyWeights.{BodyWeights}
 use Rattle.sim_induction.specs.Items.{length_of, AreLengths}
 use Rattle.sim_induction.proofs.BodyLengths.{short}
 use Rattle.run_counts.specs.Counts.{AreCounts}

@@ -5,8 +5,8 @@ use Rattle.std.proofs.lemmas.List.{get_or_past}
 use Rattle.run_windows.specs.declared.costs.TaskCosts.{TaskCosts}
 use Rattle.run_windows.specs.declared.costs.Services.{Services}
 use Rattle.run_windows.specs.declared.costs.Costs.{Costs}
-use Rattle.run_windows.specs.declared.window.Start.{Start}
-use Rattle.run_windows.specs.declared.window.Start.TheVariants as start
+use Rattle.run_windows.specs.declared.costs.Start.{Start}
+use Rattle.run_windows.specs.declared.costs.Start.TheVariants as start
 use Rattle.run_windows.specs.Costs.{section, no_services, no_task}
 use Rattle.run_windows.specs.Windows.{is_lower, is_boot}
 use Rattle.run_windows.specs.declared.level.Way.{Way}

@@ -10,7 +10,7 @@ use Rattle.load_text.specs.declared.load_line.Entry.{Entry}
 use Rattle.load_text.specs.Loads.{distance, filling, arrivals_within}
 use Rattle.run_windows.specs.declared.costs.Costs.{Costs}
 use Rattle.run_windows.specs.declared.costs.CounterCosts.{CounterCosts}
-use Rattle.run_windows.specs.declared.window.Start.TheVariants as start
+use Rattle.run_windows.specs.declared.costs.Start.TheVariants as start
 use Rattle.run_windows.specs.Arrivals.{arrivals, tick_counts}
 use Rattle.run_windows.specs.Windows.{Numbers, round_counts, IsSolution}
 use Rattle.run_windows.specs.RunWindows.{margin, front_of, begun_item, run_window, AreRunBounds}

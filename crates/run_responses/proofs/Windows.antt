@@ -11,10 +11,10 @@ use Rattle.osek_scheduler.proofs.Facts.{Facts}
 use Rattle.code_lengths.specs.LongestPaths.{tick_path}
 use Rattle.run_windows.specs.declared.costs.CounterCosts.{CounterCosts}
 use Rattle.run_windows.specs.declared.costs.Costs.{Costs}
-use Rattle.run_windows.specs.declared.window.Start.{Start}
-use Rattle.run_windows.specs.declared.window.Made.{Made}
-use Rattle.run_windows.specs.declared.window.Window.{Window}
-use Rattle.run_windows.specs.declared.window.Rule.TheVariants as rule
+use Rattle.run_windows.specs.declared.costs.Start.{Start}
+use Rattle.run_windows.specs.declared.costs.Made.{Made}
+use Rattle.run_windows.specs.declared.costs.Window.{Window}
+use Rattle.run_windows.specs.declared.costs.Rule.TheVariants as rule
 use Rattle.run_windows.specs.Costs.{reckoned, task, comes, makers, making, no_task, no_makings}
 use Rattle.run_windows.specs.Arrivals.{arrivals}
 use Rattle.run_windows.specs.Arrivals

@@ -2,8 +2,8 @@
 use Rattle.std.specs.Prelude.{ℕ, ◌+◌, ◌-◌, ◌≡◌, max, cond, Bool, true, false, List, [], ◌∷◌, Option, Some, None}
 use Rattle.run_windows.specs.declared.costs.TaskCosts.{TaskCosts}
 use Rattle.run_windows.specs.declared.costs.Costs.{Costs}
-use Rattle.run_windows.specs.declared.window.Start.TheVariants as start
-use Rattle.run_windows.specs.declared.window.Window.{Window}
+use Rattle.run_windows.specs.declared.costs.Start.TheVariants as start
+use Rattle.run_windows.specs.declared.costs.Window.{Window}
 use Rattle.run_windows.specs.Costs.{window_limit, comes}
 use Rattle.run_windows.specs.Windows.{IsBound}
 use Rattle.run_windows.specs.RunWindows.{margin, lead_of}

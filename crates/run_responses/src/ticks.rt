@@ -1,12 +1,13 @@
 //! How soon ticks have ended behind the arrivals of their counters.
 ghost use Rattle.std.specs.Prelude.{◌≡◌, cond, true, false, length, IfOk};
 ghost use Rattle.run_windows.specs.Costs.{comes};
-ghost use Rattle.run_responses.specs.TickWindows.{tick_costs, longest_service, tick_window, IsTickBound, greater_number, IsTickNumber};
+ghost use Rattle.run_responses.specs.TickWindows.{tick_costs, longest_service, tick_window, IsTickBound};
+ghost use Rattle.run_responses.specs.TickWindows.{greater_number, IsTickNumber};
 
-use run_windows::bounds::{room, window_bound};
+use run_windows::costs::Window;
 use run_windows::level::comes;
-use run_windows::window::Window;
-use run_windows::{Costs, Made, Start, TaskCosts};
+use run_windows::responses::{room, window_bound};
+use run_windows::{Costs, Made, RunCosts, Start, TaskCosts};
 use sloth_base::{List, Result};
 use std::alloc::Global;
 
@@ -45,67 +46,52 @@ fn longest_service(costs: &Costs) -> u32
 }
 
 // The counts in front of a window.
-fn tick_front(longest: u32, late: u32, costs: &Costs, opens: bool) -> u64
-    ensures { result ≡ (tick_window longest late costs.now opens).front }
+fn tick_front(run: &RunCosts, opens: bool) -> u64
+    ensures { result ≡ (tick_window run.now.longest run.now.late run.now.costs opens).front }
 {
+    let costs = &run.costs;
     let service = if opens { 0 } else { longest_service(costs) };
-    let stretches = u64::from(late) + u64::from(late);
-    let items = u64::from(longest) + u64::from(longest);
+    let stretches = u64::from(run.late) + u64::from(run.late);
+    let items = u64::from(run.longest) + u64::from(run.longest);
     items + stretches + u64::from(service)
 }
 
 // The bound of a window, with the costs of counters alone.
-fn tick_bound(
-    longest: u32,
-    late: u32,
-    costs: &Costs,
-    ticks: &Costs,
-    opens: bool,
-    numbers: &mut [Made],
-) -> Option<u32>
-    requires ticks { ticks.now ≡ tick_costs costs.now }
+fn tick_bound(run: &RunCosts, ticks: &Costs, opens: bool, numbers: &mut [Made]) -> Option<u32>
+    requires ticks { ticks.now ≡ tick_costs run.now.costs }
     requires count { length numbers.old ≡ 0 }
-    ensures bound { IsTickBound longest late costs.now opens result }
+    ensures bound { IsTickBound run.now.longest run.now.late run.now.costs opens result }
     ensures count { length numbers.new ≡ 0 }
 {
     let window = Window {
         target: None,
         start: Start::Free,
-        front: tick_front(longest, late, costs, opens),
+        front: tick_front(run, opens),
         span: None,
     };
     window_bound(ticks, &window, numbers)
 }
 
-fn greater_number(
-    longest: u32,
-    late: u32,
-    opening: Option<u32>,
-    serving: Option<u32>,
-) -> Option<u32>
-    ensures { result ≡ greater_number longest late opening serving }
+fn greater_number(run: &RunCosts, opening: Option<u32>, serving: Option<u32>) -> Option<u32>
+    ensures { result ≡ greater_number run.now.longest run.now.late opening serving }
 {
-    match opening {
-        Some(opening) => match serving {
-            Some(serving) => {
-                let one = opening.saturating_sub(longest).saturating_sub(late);
-                let other = serving.saturating_sub(longest).saturating_sub(late);
-                Some(one.max(other.saturating_sub(late)))
-            }
-            None => None,
-        },
-        None => None,
-    }
+    let one = opening?
+        .saturating_sub(run.longest)
+        .saturating_sub(run.late);
+    let other = serving?
+        .saturating_sub(run.longest)
+        .saturating_sub(run.late);
+    Some(one.max(other.saturating_sub(run.late)))
 }
 
 /// Within how many counts of an arrival of its counter a tick has ended, in runs that keep these costs: the greater
 /// number of two windows. None where one has more than 2,147,483,647 counts.
-pub fn tick_number(alloc: Global, longest: u32, late: u32, costs: &Costs) -> Result<Option<u32>>
-    ensures { IfOk result (λ told. IsTickNumber longest late costs.now told) }
+pub fn tick_number(alloc: Global, run: &RunCosts) -> Result<Option<u32>>
+    ensures { IfOk result (λ told. IsTickNumber run.now.longest run.now.late run.now.costs told) }
 {
-    let ticks = tick_costs(alloc, costs)?;
+    let ticks = tick_costs(alloc, &run.costs)?;
     let mut numbers = room(alloc, 0)?;
-    let opening = tick_bound(longest, late, costs, &ticks, true, &mut numbers);
-    let serving = tick_bound(longest, late, costs, &ticks, false, &mut numbers);
-    Ok(greater_number(longest, late, opening, serving))
+    let opening = tick_bound(run, &ticks, true, &mut numbers);
+    let serving = tick_bound(run, &ticks, false, &mut numbers);
+    Ok(greater_number(run, opening, serving))
 }

@@ -16,7 +16,7 @@ use Rattle.rv32_instr.specs.Memory.{Memory, memory_of, refusal, loaded_number}
 use Rattle.rv32_instr.specs.Table.{Decode}
 use Rattle.rv32_instr.specs.declared.InstrKind.{InstrKind}
 use Rattle.rv32_instr.specs.declared.InstrKind.TheVariants as instr
-use Rattle.rv32_instr.specs.declared.effect.Bad.{Bad}
+use Rattle.rv32_instr.specs.declared.encoding.Bad.{Bad}
 use Rattle.sloth_inspect.specs.States.{states_in, is_pending_in}
 use Rattle.run_samples.specs.declared.accesses.Access.{Access}
 use Rattle.run_samples.specs.declared.accesses.AccessKind.{AccessKind}

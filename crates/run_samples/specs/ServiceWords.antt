@@ -10,8 +10,8 @@ use Rattle.sloth_inspect.specs.declared.service_words.ServiceWords.{ServiceWords
 use Rattle.sloth_runner.specs.Runner.{run_end}
 use Rattle.sloth_runner.specs.declared.runner.Halt.{Halt}
 use Rattle.sloth_runner.specs.declared.runner.RunEnd.TheVariants as ends
-use Rattle.run_samples.specs.declared.service_words.WordsRead.{WordsRead}
-use Rattle.run_samples.specs.declared.service_words.WordsRead.TheVariants as read
+use Rattle.run_samples.specs.declared.samples.WordsRead.{WordsRead}
+use Rattle.run_samples.specs.declared.samples.WordsRead.TheVariants as read
 
 -- those of a state that a run gets to
 abbrev pub words_in : Option State → ServiceWords

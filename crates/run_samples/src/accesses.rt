@@ -1,25 +1,22 @@
 //! What arrivals and masked code do with the pending bytes of lines.
-ghost use Rattle.std.specs.Prelude.{◌≡◌, ◌<◌, ◌∷◌, ◌++◌, [], OnOk, replicate, slice_set};
+ghost use Rattle.std.specs.Prelude.{◌≡◌, ◌<◌, ◌++◌, OnOk, replicate, slice_set};
 ghost use Rattle.sloth_base.specs.MemoryMap.{line_count};
-ghost use Rattle.rv32_instr.specs.Execute.{pending_line};
 ghost use Rattle.rv32_instr.specs.Memory.{memory_of};
 ghost use Rattle.rv32_machine.specs.Start.{start};
 ghost use Rattle.rv32_machine.specs.Run.{state_after};
-ghost use Rattle.run_samples.specs.Accesses.{is_waiting, is_waiting_line, can_raise, arrival_access};
-ghost use Rattle.run_samples.specs.Accesses.{arrival_accesses, accesses_at};
-ghost use Rattle.run_samples.specs.Accesses.{access_of, code_access};
+ghost use Rattle.run_samples.specs.Accesses.{is_waiting, is_waiting_line, arrival_access, arrival_accesses};
+ghost use Rattle.run_samples.specs.Accesses.{accesses_at, access_of, code_access};
 ghost use Rattle.sloth_runner.specs.Moments.{AreLines, sloth_state};
 ghost use Rattle.sloth_runner.specs.Runner.{HasRun, image_of, count_of, given_arrivals};
 
 use observe::passing;
 use osek_scheduler::TaskState;
 use rv32_instr::{Instr, InstrKind};
-use rv32_machine::{Bus, SlothBus, Step};
-use sloth_base::{
-    Arrival, CONTROLLER_BASE, FIRST_COUNTER_LINE, LINE_COUNT, Line, NoMemory, Result, TASK_LIMIT,
-};
+use rv32_machine::{Bus, SlothBus, Step, pending_line};
+use sloth_base::{Arrival, FIRST_COUNTER_LINE, Line, Result, TASK_LIMIT};
 use sloth_inspect::states;
 use sloth_runner::Runner;
+use text_pieces::push;
 
 /// What is done with a line's pending byte.
 #[derive(Clone, Copy)]
@@ -60,40 +57,25 @@ fn is_waiting_line(bus: &mut SlothBus, line: Line) -> bool
     is_waiting(tasks[usize::from(line.0)])
 }
 
-// Whether the line can be raised. The bus keeps its contents.
-fn can_raise(bus: &mut SlothBus, line: Line) -> bool
-    requires { line < line_count }
-    ensures is { result ≡ can_raise bus.old line }
-    ensures same { bus.new ≡ bus.old }
-{
-    !bus.is_pending(line) && !is_waiting_line(bus, line)
-}
-
 // What an arrival does behind others of its moment, which have raised these lines.
 fn arrival_access(bus: &mut SlothBus, raised: &[u8; 32], arrival: &Arrival) -> Access
     requires { arrival.now.line < line_count }
     ensures is { result ≡ arrival_access bus.old raised.now arrival.now }
     ensures same { bus.new ≡ bus.old }
 {
-    let raises = raised[usize::from(arrival.line.0)] == 0 && can_raise(bus, arrival.line);
-    let kind = if raises {
-        AccessKind::Raises
-    } else {
-        AccessKind::Finds
-    };
+    let line = arrival.line;
+    let raises = raised[usize::from(line.0)] == 0
+        && (!bus.is_pending(line) && !is_waiting_line(bus, line));
     Access {
         arrival: *arrival,
-        kind,
+        kind: if raises {
+            AccessKind::Raises
+        } else {
+            AccessKind::Finds
+        },
     }
 }
 
-fn push_access(noted: &mut Vec<Access>, access: &Access) -> Result<()>
-    ensures { OnOk result (noted.new.items ≡ noted.old.items ++ access.now ∷ []) }
-{
-    noted.push(*access).map_err(|_| NoMemory)
-}
-
-// Notes that an arrival of the moment has raised its line, or found it raised.
 fn set_raised(raised: &mut [u8; 32], arrival: &Arrival)
     requires { arrival.now.line < line_count }
     ensures { raised.new ≡ slice_set raised.old arrival.now.line 1 }
@@ -101,7 +83,6 @@ fn set_raised(raised: &mut [u8; 32], arrival: &Arrival)
     raised[usize::from(arrival.line.0)] = 1;
 }
 
-// Notes what all arrivals of a moment do.
 fn push_arrivals(bus: &mut SlothBus, arrivals: &[Arrival], noted: &mut Vec<Access>) -> Result<()>
     requires { AreLines arrivals.now }
     ensures noted { OnOk result (noted.new.items ≡ noted.old.items
@@ -110,23 +91,10 @@ fn push_arrivals(bus: &mut SlothBus, arrivals: &[Arrival], noted: &mut Vec<Acces
 {
     let mut raised = [0u8; 32];
     for arrival in arrivals {
-        let found = arrival_access(bus, &raised, arrival);
-        push_access(noted, &found)?;
+        push(noted, arrival_access(bus, &raised, arrival))?;
         set_raised(&mut raised, arrival);
     }
     Ok(())
-}
-
-// The line that an address is the pending byte of.
-#[tactic(auto, using(std::proofs::lemmas::Bool::Decides::nat_tests))]
-fn pending_line(address: u32) -> Option<Line>
-    ensures { result ≡ pending_line address }
-{
-    if CONTROLLER_BASE <= address && address < CONTROLLER_BASE + LINE_COUNT as u32 {
-        Some(Line((address - CONTROLLER_BASE) as u8))
-    } else {
-        None
-    }
 }
 
 // A store, or else a load of what a step touched.

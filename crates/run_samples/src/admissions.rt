@@ -1,19 +1,20 @@
 //! Which arrivals of a run are lost.
 ghost use Rattle.std.specs.Prelude.{◌≡◌, ◌++◌, OnOk};
-ghost use Rattle.run_samples.specs.Admissions.{is_ready, has_effect, is_store, is_by_code, is_stored_first};
-ghost use Rattle.run_samples.specs.Admissions.{admission_of, admissions_of, no_notes, with_accesses, with_code};
-ghost use Rattle.run_samples.specs.Admissions.{settled, with_sample};
+ghost use Rattle.run_samples.specs.Admissions.{is_ready, has_effect, is_by_code, is_stored_first, admission_of};
+ghost use Rattle.run_samples.specs.Admissions.{admissions_of, no_notes, with_accesses, settled, with_sample};
 ghost use Rattle.run_samples.specs.Samples.{IsSampling, seen_behind, sampled_image, sampled_arrivals, sampled_count};
 ghost use Rattle.rv32_machine.specs.Start.{start};
 ghost use Rattle.rv32_machine.specs.Run.{state_after};
 ghost use Rattle.run_samples.specs.Accesses.{accesses_at};
 
+use crate::accesses::note_arrivals;
 use crate::{Access, AccessKind, Sample, Sampler};
 use osek_scheduler::TaskState;
-use sloth_base::{Arrival, FIRST_COUNTER_LINE, Line, NoMemory, Result};
+use sloth_base::{Arrival, FIRST_COUNTER_LINE, Line, Result};
 use sloth_runner::task_states::Seen;
 use std::alloc::Global;
 use std::marker::Model;
+use text_pieces::push;
 
 /// An arrival in a run, and whether it is lost.
 #[derive(Clone, Copy)]
@@ -33,20 +34,9 @@ fn has_effect(seen: &Option<Seen>, line: Line) -> bool
     ensures { result ≡ has_effect seen.now line }
 {
     match seen {
-        None => true,
-        Some(seen) => {
-            if line.0 >= FIRST_COUNTER_LINE {
-                return true;
-            }
-            is_ready(seen.tasks[usize::from(line.0)])
-        }
+        Some(seen) if line.0 < FIRST_COUNTER_LINE => is_ready(seen.tasks[usize::from(line.0)]),
+        _ => true,
     }
-}
-
-fn is_store(kind: AccessKind) -> bool
-    ensures { result ≡ is_store kind }
-{
-    matches!(kind, AccessKind::Stores)
 }
 
 fn is_by_code(kind: AccessKind) -> bool
@@ -61,7 +51,7 @@ fn is_stored_first(line: u8, behind: &[Access]) -> bool
 {
     for access in behind {
         if access.arrival.line.0 == line && is_by_code(access.kind) {
-            return is_store(access.kind);
+            return matches!(access.kind, AccessKind::Stores);
         }
     }
     false
@@ -73,26 +63,18 @@ fn settled_admission(seen: &Option<Seen>, access: &Access, behind: &[Access]) ->
     let line = access.arrival.line;
     let kept = matches!(access.kind, AccessKind::Raises)
         && (has_effect(seen, line) && !is_stored_first(line.0, behind));
-    Admission {
-        arrival: access.arrival,
-        lost: !kept,
-    }
+    let (arrival, lost) = (access.arrival, !kept);
+    Admission { arrival, lost }
 }
 
 // Appends what becomes of several.
-fn push_admissions(
-    admissions: &mut Vec<Admission>,
-    seen: &Option<Seen>,
-    accesses: &[Access],
-) -> Result<()>
-    ensures { OnOk result (admissions.new.items ≡ admissions.old.items ++ admissions_of seen.now accesses.now) }
+fn push_admissions(all: &mut Vec<Admission>, seen: &Option<Seen>, accesses: &[Access]) -> Result<()>
+    ensures { OnOk result (all.new.items ≡ all.old.items ++ admissions_of seen.now accesses.now) }
 {
     let mut rest = accesses;
     while let Some((access, behind)) = rest.split_first() {
         if !is_by_code(access.kind) {
-            admissions
-                .push(settled_admission(seen, access, behind))
-                .map_err(|_| NoMemory)?;
+            push(all, settled_admission(seen, access, behind))?;
         }
         rest = behind;
     }
@@ -134,7 +116,7 @@ impl Noting {
             (start (sampled_image sampler.old))))) }
         ensures same { sampler.new ≡ sampler.old }
     {
-        sampler.note_arrivals(&mut self.accesses)
+        note_arrivals(&mut sampler.runner, &mut self.accesses)
     }
 
     // Of all arrivals it is known what became of them: the tasks are seen so.
@@ -146,24 +128,17 @@ impl Noting {
         Ok(())
     }
 
-    // What code does with a pending byte.
-    fn note_code(&mut self, access: &Option<Access>) -> Result<()>
-        ensures { OnOk result (self.new ≡ with_code self.old access.now) }
-    {
-        if let Some(access) = access {
-            self.accesses.push(*access).map_err(|_| NoMemory)?;
-        }
-        Ok(())
-    }
-
     /// What a count shows: the tasks, if it finds interrupts open, and else what its instruction does.
     pub fn show(&mut self, sample: &Sample) -> Result<()>
         ensures { OnOk result (self.new ≡ with_sample self.old sample.now) }
     {
-        if sample.interrupts.masked {
-            return self.note_code(&sample.access);
+        if !sample.interrupts.masked {
+            return self.settle(&sample.seen);
         }
-        self.settle(&sample.seen)
+        if let Some(access) = sample.access {
+            push(&mut self.accesses, access)?;
+        }
+        Ok(())
     }
 
     /// The end of a sampler's run tells what became of the others.

@@ -10,11 +10,9 @@
 pub mod accesses;
 mod admissions;
 pub mod lines;
-mod samples;
-pub mod service_words;
+pub mod samples;
 
 pub use accesses::{Access, AccessKind};
 pub use admissions::{Admission, Noting};
 pub use lines::{push_system, state_line};
-pub use samples::{Sample, Sampler};
-pub use service_words::{ServiceWords, WordsRead, words_at};
+pub use samples::{Sample, Sampler, ServiceWords, WordsRead, words_at};

@@ -74,21 +74,15 @@ fn push_task(
     push_events(text, words.events[task])
 }
 
-// Appends the line of a counter.
 #[tactic(auto, unfolding(crate::specs::SystemText::counter_line))]
-fn push_counter(
-    text: &mut Vec<u8>,
-    image: &Image,
-    words: &ServiceWords,
-    counter: usize,
-) -> Result<()>
+fn push_counter(text: &mut Vec<u8>, image: &Image, words: &ServiceWords, place: usize) -> Result<()>
     requires format { InFormat image.now }
-    requires counter { counter < length image.now.counters }
-    ensures { OnOk result (text.new.items ≡ text.old.items ++ counter_line (get_or image.now.counters counter [])
-        (get_or words.now.counters counter 0)) }
+    requires place { place < length image.now.counters }
+    ensures { OnOk result (text.new.items ≡ text.old.items ++ counter_line (get_or image.now.counters place [])
+        (get_or words.now.counters place 0)) }
 {
-    let name = image.counters.items()[counter].bytes();
-    line!(text; Word(b"counter "), Word(name), Word(b" "), Number(words.counters[counter]), Word(b"\n"))
+    let name = image.counters.items()[place].bytes();
+    line!(text; Word(b"counter "), Word(name), Word(b" "), Number(words.counters[place]), Word(b"\n"))
 }
 
 // Appends the line of an alarm, if it is in use.

@@ -1,20 +1,19 @@
 //! Samples of a run: one at each count, after the arrivals of the count and before a line is taken.
-//! Where a run stands at a count.
-ghost use Rattle.std.specs.Prelude.{◌≡◌, ◌<◌, ◌+◌, ◌++◌, OnOk, IfOk, IfErr};
+//! Where a run stands at a count. The service words of a run at a count.
+ghost use Rattle.std.specs.Prelude.{◌≡◌, ◌<◌, ◌+◌, OnOk, IfOk, IfErr, ◌≤◌};
 ghost use Rattle.sloth_base.specs.ImageRange.{InFormat};
 ghost use Rattle.sloth_base.specs.Arrivals.{AreArrivals};
 ghost use Rattle.sloth_base.specs.Owners.{owners_named};
 ghost use Rattle.sloth_base.specs.Limits.{count_limit};
-ghost use Rattle.rv32_machine.specs.Start.{start};
-ghost use Rattle.rv32_machine.specs.Run.{state_after};
-ghost use Rattle.run_samples.specs.Accesses.{accesses_at};
-ghost use Rattle.run_samples.specs.Samples.{AreSampledLevels, IsSample, IsSampling, StopsAt, seen_behind};
-ghost use Rattle.run_samples.specs.Samples.{sampled_image, sampled_arrivals, sampled_count};
+ghost use Rattle.run_samples.specs.Samples.{AreSampledLevels, IsSample, IsSampling, StopsAt, seen_behind, sampled_image, sampled_arrivals, sampled_count};
 ghost use Rattle.run_samples.specs.Addresses.{address_behind};
+ghost use Rattle.run_samples.specs.ServiceWords.{words_behind, AreWordsRead};
 
 use crate::Access;
-use crate::accesses::{note_arrivals, step_access};
+use crate::accesses::step_access;
 use sloth_base::{Arrival, Image, Line, Result, TASK_LIMIT};
+pub use sloth_inspect::ServiceWords;
+use sloth_inspect::service_words::service_words;
 use sloth_runner::task_states::Seen;
 use sloth_runner::{Halt, Interrupts, Runner, interrupts_shown, level_bytes, tasks_seen};
 use std::alloc::Global;
@@ -77,26 +76,16 @@ impl<'a> Sampler<'a> {
         match self.runner.execute() {
             Ok(step) => {
                 let access = step_access(&mut self.runner, &step);
+                let (seen, taken) = (self.last, step.entered);
                 Ok(Sample {
-                    seen: self.last,
+                    seen,
                     interrupts,
-                    taken: step.entered,
+                    taken,
                     access,
                 })
             }
             Err(halt) => Err(halt),
         }
-    }
-
-    /// Notes what the arrivals of the next count do. The sampler stays as it is.
-    pub(crate) fn note_arrivals(&mut self, noted: &mut Vec<Access>) -> Result<()>
-        requires sampling { IsSampling self.old }
-        ensures noted { OnOk result (noted.new.items ≡ noted.old.items
-            ++ accesses_at (sampled_arrivals self.old) (sampled_count self.old)
-            (state_after (sampled_count self.old) (sampled_arrivals self.old) (start (sampled_image self.old)))) }
-        ensures same { self.new ≡ self.old }
-    {
-        note_arrivals(&mut self.runner, noted)
     }
 
     /// What is seen of the tasks in front of the arrivals of the next count.
@@ -127,4 +116,52 @@ impl<'a> Sampler<'a> {
     {
         self.runner.machine.pc()
     }
+}
+
+/// What is read of the service words at a count of a run.
+#[derive(Clone, Copy)]
+pub enum WordsRead {
+    At(ServiceWords),
+    /// The machine stops before.
+    Stopped(Halt),
+}
+
+impl<'a> Sampler<'a> {
+    ghost use Rattle.run_samples.specs.Samples.{IsSampling, sampled_image, sampled_arrivals, sampled_count};
+
+    /// What the service words say at the next count.
+    pub fn service_words(&mut self) -> ServiceWords
+        requires sampling { IsSampling self.old }
+        ensures words { result ≡ words_behind (sampled_image self.old) (sampled_arrivals self.old)
+            (sampled_count self.old) }
+        ensures same { self.new ≡ self.old }
+    {
+        service_words(self.runner.machine.bus_mut())
+    }
+
+    // Runs up to this count, and tells what the service words say there.
+    fn words_behind(&mut self, count: u32) -> WordsRead
+        requires sampling { IsSampling self.old }
+        requires fresh { sampled_count self.old ≡ 0 }
+        requires few { count ≤ count_limit }
+        ensures { AreWordsRead (sampled_image self.old) (sampled_arrivals self.old) count result }
+    {
+        while self.runner.machine.count < count {
+            if let Err(halt) = self.next() {
+                return WordsRead::Stopped(halt);
+            }
+        }
+        WordsRead::At(self.service_words())
+    }
+}
+
+/// What the service words say at a count of the run of an image with arrivals.
+pub fn words_at(alloc: Global, image: &Image, arrivals: &[Arrival], count: u32) -> Result<WordsRead>
+    requires format { InFormat image.now }
+    requires arrivals { AreArrivals (owners_named image.now) arrivals.now }
+    requires count { count ≤ count_limit }
+    ensures { IfOk result (AreWordsRead image.now arrivals.now count) }
+{
+    let mut sampler = Sampler::new(alloc, image, arrivals)?;
+    Ok(sampler.words_behind(count))
 }

@@ -1,7 +1,7 @@
 -- The first of what numbers say, number by number.
 use Rattle.std.proofs.Common.{◌≡◌, ◌∙◌, ℕ, ◌+◌, suc, ap, sym, subst, arith}
 use Rattle.std.specs.Prelude.{Option}
-use Rattle.run_windows.specs.declared.told.Untold.{Untold}
+use Rattle.run_windows.specs.declared.costs.Untold.{Untold}
 use Rattle.run_windows.specs.FirstUntold.{earlier, first_below}
 
 pub one_further : (f : ℕ → Option Untold) (j : ℕ) (found one next : Option Untold) → found ≡ first_below f j → one ≡ f j → next ≡ earlier found one

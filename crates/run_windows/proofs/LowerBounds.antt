@@ -11,10 +11,10 @@ use Rattle.run_windows.specs.declared.costs.Makings.{Makings}
 use Rattle.run_windows.specs.declared.costs.TaskCosts.{TaskCosts}
 use Rattle.run_windows.specs.declared.costs.Costs.{Costs}
 use Rattle.run_windows.specs.declared.curves.Curve.{Curve}
-use Rattle.run_windows.specs.declared.window.Window.{Window}
-use Rattle.run_windows.specs.declared.window.Made.{Made}
-use Rattle.run_windows.specs.declared.window.Rule.{Rule}
-use Rattle.run_windows.specs.declared.window.Rule.TheVariants as rule
+use Rattle.run_windows.specs.declared.costs.Window.{Window}
+use Rattle.run_windows.specs.declared.costs.Made.{Made}
+use Rattle.run_windows.specs.declared.costs.Rule.{Rule}
+use Rattle.run_windows.specs.declared.costs.Rule.TheVariants as rule
 use Rattle.run_windows.specs.Costs.{capped, reckoned, task, makers}
 use Rattle.run_windows.specs.Arrivals.{arrivals, booted_expiries, cyclic_expiries, expiries, acts_on, expiring, ticking, tick_counts}
 use Rattle.run_windows.specs.Windows.{Numbers, none_made, numbers_of, rule_of, counted, is_boot, span_of, shared, of_makings, round_makings, activations, settings, round_counts, window_counts, IsAtMost, IsSolution}

@@ -9,10 +9,10 @@ use Rattle.run_windows.specs.declared.costs.CounterCosts.{CounterCosts}
 use Rattle.run_windows.specs.declared.costs.AlarmCosts.{AlarmCosts}
 use Rattle.run_windows.specs.declared.costs.Makings.{Makings}
 use Rattle.run_windows.specs.declared.costs.Costs.{Costs}
-use Rattle.run_windows.specs.declared.window.Window.{Window}
-use Rattle.run_windows.specs.declared.window.Made.{Made}
-use Rattle.run_windows.specs.declared.window.Rule.{Rule}
-use Rattle.run_windows.specs.declared.window.Rule.TheVariants as rule
+use Rattle.run_windows.specs.declared.costs.Window.{Window}
+use Rattle.run_windows.specs.declared.costs.Made.{Made}
+use Rattle.run_windows.specs.declared.costs.Rule.{Rule}
+use Rattle.run_windows.specs.declared.costs.Rule.TheVariants as rule
 use Rattle.run_windows.specs.Costs.{reckoned, task, makers}
 use Rattle.run_windows.specs.Arrivals.{arrivals, booted_expiries, cyclic_expiries, expiries, acts_on, expiring, ticking, tick_counts}
 use Rattle.run_windows.specs.Windows.{Numbers, rule_of, counted, is_boot, span_of, shared, of_makings, round_makings, activations, settings, made_within, round_counts, window_counts, IsAtMost}

@@ -1,8 +1,8 @@
 -- Windows have one bound, and loads one demand.
 use Rattle.std.proofs.Common.{◌≡◌, ℕ, ◌<◌, ◌==◌, ◌&&◌, not, cond, length, Option, Some, None, refl, sym, ap, ◌∙◌, arith}
 use Rattle.run_windows.specs.declared.costs.Costs.{Costs}
-use Rattle.run_windows.specs.declared.window.Made.{Made}
-use Rattle.run_windows.specs.declared.window.Window.{Window}
+use Rattle.run_windows.specs.declared.costs.Made.{Made}
+use Rattle.run_windows.specs.declared.costs.Window.{Window}
 use Rattle.run_windows.specs.Windows.{Numbers, IsAtMost, IsLeast, is_made, is_target_made, IsBound}
 use Rattle.run_windows.specs.Demand.{demand_limit, demand_window, hundredths, IsDemand}
 

@@ -5,10 +5,10 @@ use Rattle.std.proofs.lemmas.Bool.{cases_eq, cases_lt}
 use Rattle.std.proofs.lemmas.List.{get_or-set_same, get_or-set_other, get_or_past, length-set}
 use Rattle.run_windows.specs.declared.costs.TaskCosts.{TaskCosts}
 use Rattle.run_windows.specs.declared.costs.Costs.{Costs}
-use Rattle.run_windows.specs.declared.window.Window.{Window}
-use Rattle.run_windows.specs.declared.window.Made.{Made}
-use Rattle.run_windows.specs.declared.window.Rule.{Rule}
-use Rattle.run_windows.specs.declared.window.Rule.TheVariants as rule
+use Rattle.run_windows.specs.declared.costs.Window.{Window}
+use Rattle.run_windows.specs.declared.costs.Made.{Made}
+use Rattle.run_windows.specs.declared.costs.Rule.{Rule}
+use Rattle.run_windows.specs.declared.costs.Rule.TheVariants as rule
 use Rattle.run_windows.specs.Costs.{greatest_sum, capped, reckoned, no_task}
 use Rattle.run_windows.specs.Windows.{Numbers, none_made, numbers_of, rule_of, counted, activations, settings, made_within, round_counts, window_counts, IsAtMost, IsSolution, IsLeast}
 use Rattle.run_windows.specs.Settling.{most_made, AreBelow, capped_made, IsMet, TakeCounts}

@@ -3,9 +3,9 @@ use Rattle.std.proofs.Common.{◌≡◌, ◌∙◌, ℕ, ◌+◌, ◌-◌, ◌<�
 use Rattle.std.specs.Prelude.{nat_lt}
 use Rattle.std.proofs.lemmas.Bool.{cases_eq, ltb-true, ltb-false, true≢false}
 use Rattle.run_windows.specs.declared.costs.Costs.{Costs}
-use Rattle.run_windows.specs.declared.window.Start.{Start}
-use Rattle.run_windows.specs.declared.window.Window.{Window}
-use Rattle.run_windows.specs.declared.window.Longest.{Longest}
+use Rattle.run_windows.specs.declared.costs.Start.{Start}
+use Rattle.run_windows.specs.declared.costs.Window.{Window}
+use Rattle.run_windows.specs.declared.costs.Longest.{Longest}
 use Rattle.run_windows.specs.Costs.{window_limit}
 use Rattle.run_windows.specs.Windows.{IsBound}
 use Rattle.run_windows.specs.RunWindows.{margin, lead_of, start_at, run_window, IsNumber, IsWindowWithin, IsStartWithin}

@@ -1,10 +1,10 @@
 -- Makings round a cycle, and what each solution has at least for each of its counts.
 use Rattle.std.specs.Prelude.{ℕ, ◌+◌, ◌*◌, ◌≤◌, ◌≡◌, ◌==◌, cond, Bool, List}
 use Rattle.run_windows.specs.declared.costs.Costs.{Costs}
-use Rattle.run_windows.specs.declared.window.Window.{Window}
-use Rattle.run_windows.specs.declared.window.Made.{Made}
-use Rattle.run_windows.specs.declared.window.Rule.{Rule}
-use Rattle.run_windows.specs.declared.window.Rule.TheVariants as rule
+use Rattle.run_windows.specs.declared.costs.Window.{Window}
+use Rattle.run_windows.specs.declared.costs.Made.{Made}
+use Rattle.run_windows.specs.declared.costs.Rule.{Rule}
+use Rattle.run_windows.specs.declared.costs.Rule.TheVariants as rule
 use Rattle.run_windows.specs.declared.curves.Curve.{Curve}
 use Rattle.run_windows.specs.Windows.{Numbers, numbers_of, IsAtMost, IsSolution}
 

@@ -1,8 +1,8 @@
 -- The demand of a load.
 use Rattle.std.specs.Prelude.{ℕ, ◌+◌, ◌/◌, ◌≡◌, Option, Some, None}
 use Rattle.run_windows.specs.declared.costs.Costs.{Costs}
-use Rattle.run_windows.specs.declared.window.Start.TheVariants as start
-use Rattle.run_windows.specs.declared.window.Window.{Window}
+use Rattle.run_windows.specs.declared.costs.Start.TheVariants as start
+use Rattle.run_windows.specs.declared.costs.Window.{Window}
 use Rattle.run_windows.specs.Windows.{IsBound}
 
 -- the counts above which a demand is not told

@@ -5,8 +5,8 @@ use Rattle.run_windows.specs.declared.costs.TaskCosts.{TaskCosts}
 use Rattle.run_windows.specs.declared.costs.Makings.{Makings}
 use Rattle.run_windows.specs.declared.costs.SectionMakings.{SectionMakings}
 use Rattle.run_windows.specs.declared.costs.Costs.{Costs}
-use Rattle.run_windows.specs.declared.told.Untold.{Untold}
-use Rattle.run_windows.specs.declared.told.Untold.TheVariants as untold
+use Rattle.run_windows.specs.declared.costs.Untold.{Untold}
+use Rattle.run_windows.specs.declared.costs.Untold.TheVariants as untold
 use Rattle.run_windows.specs.Costs.{reckoned, task, making, section_counts, section_making}
 use Rattle.run_windows.specs.Windows.{is_lower, is_left_out}
 use Rattle.run_windows.specs.RunWindows.{is_joined, is_apart}

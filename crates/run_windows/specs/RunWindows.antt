@@ -12,9 +12,9 @@ use Rattle.run_windows.specs.declared.costs.SectionMakings.{SectionMakings}
 use Rattle.run_windows.specs.declared.costs.Costs.{Costs}
 use Rattle.run_windows.specs.declared.level.Way.{Way}
 use Rattle.run_windows.specs.declared.level.Way.TheVariants as way
-use Rattle.run_windows.specs.declared.window.Start.{Start}
-use Rattle.run_windows.specs.declared.window.Start.TheVariants as start
-use Rattle.run_windows.specs.declared.window.Window.{Window}
+use Rattle.run_windows.specs.declared.costs.Start.{Start}
+use Rattle.run_windows.specs.declared.costs.Start.TheVariants as start
+use Rattle.run_windows.specs.declared.costs.Window.{Window}
 use Rattle.run_windows.specs.Costs.{window_limit, reckoned, task, comes, making, section, joins, section_counts, section_making}
 use Rattle.run_windows.specs.Windows.{is_lower, is_left_out, is_below, is_boot, greater, IsBound}
 

@@ -1,8 +1,8 @@
 -- Numbers that grow up to the least solution.
 use Rattle.std.specs.Prelude.{ℕ, ◌+◌, ◌-◌, ◌<◌, ◌≤◌, ◌≡◌, Bool, true, false, List, length, sum_by, Option, Some, None}
 use Rattle.run_windows.specs.declared.costs.Costs.{Costs}
-use Rattle.run_windows.specs.declared.window.Window.{Window}
-use Rattle.run_windows.specs.declared.window.Made.{Made}
+use Rattle.run_windows.specs.declared.costs.Window.{Window}
+use Rattle.run_windows.specs.declared.costs.Made.{Made}
 use Rattle.run_windows.specs.Costs.{greatest_sum, capped, reckoned, task}
 use Rattle.run_windows.specs.Windows.{Numbers, numbers_of, rule_of, counted, activations, settings, IsAtMost, IsSolution, IsLeast}
 

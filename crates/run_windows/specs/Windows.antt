@@ -4,12 +4,12 @@ use Rattle.run_windows.specs.declared.costs.TaskCosts.{TaskCosts}
 use Rattle.run_windows.specs.declared.costs.Makings.{Makings}
 use Rattle.run_windows.specs.declared.costs.SectionMakings.{SectionMakings}
 use Rattle.run_windows.specs.declared.costs.Costs.{Costs}
-use Rattle.run_windows.specs.declared.window.Start.{Start}
-use Rattle.run_windows.specs.declared.window.Start.TheVariants as start
-use Rattle.run_windows.specs.declared.window.Window.{Window}
-use Rattle.run_windows.specs.declared.window.Made.{Made}
-use Rattle.run_windows.specs.declared.window.Rule.{Rule}
-use Rattle.run_windows.specs.declared.window.Rule.TheVariants as rule
+use Rattle.run_windows.specs.declared.costs.Start.{Start}
+use Rattle.run_windows.specs.declared.costs.Start.TheVariants as start
+use Rattle.run_windows.specs.declared.costs.Window.{Window}
+use Rattle.run_windows.specs.declared.costs.Made.{Made}
+use Rattle.run_windows.specs.declared.costs.Rule.{Rule}
+use Rattle.run_windows.specs.declared.costs.Rule.TheVariants as rule
 use Rattle.run_windows.specs.Costs.{reckoned, task, comes, makers, making, section_making}
 use Rattle.run_windows.specs.Arrivals.{arrivals, ticking, tick_counts}
 

@@ -1,5 +1,14 @@
-//! What response times are computed from.
+//! What response times are computed from, windows, and the longest of them; and the first thing that has no number.
+ghost use Rattle.std.specs.Prelude.{◌≡◌, Some, None, cond, length};
+ghost use Rattle.run_windows.specs.Longest.{number_of};
+ghost use Rattle.run_windows.specs.declared.costs.Untold.{Untold};
+ghost use Rattle.run_windows.specs.FirstUntold.{IsInside, is_told, untold_rounds, untold_making, level_makings, untold_joined, untold_apart, untold_lower, first_untold};
 
+use crate::level::{
+    is_apart, is_joined, is_left_out, is_lower, making, section_counts, section_making,
+};
+use crate::rounds::{ENDLESS, reckoned};
+use crate::task;
 use sloth_base::List;
 
 /// A task. A greatest number that is none has no limit, or is greater than what sums of rounds and sections tell.
@@ -64,14 +73,11 @@ pub struct Makings {
     pub next_settings: Option<u32>,
 }
 
-/// Which services that name one task another one reaches.
+/// Which services that name one task another one reaches: ActivateTask, ChainTask, SetEvent.
 #[derive(Clone, Copy)]
 pub struct Services {
-    /// ActivateTask.
     pub activates: bool,
-    /// ChainTask.
     pub chains: bool,
-    /// SetEvent.
     pub sets_events: bool,
 }
 
@@ -116,4 +122,211 @@ pub struct Costs {
     pub services: List<List<Services>>,
     /// By the task for which sections are.
     pub levels: List<Level>,
+}
+
+/// Costs that runs keep, where no item has more instructions than `longest`, and no stretch more counts than `late`.
+#[derive(Drop)]
+pub struct RunCosts {
+    pub costs: Costs,
+    pub longest: u32,
+    pub late: u32,
+}
+
+/// How a window begins.
+#[derive(Clone, Copy)]
+pub enum Start {
+    /// Something of a lower task, or a tick, is under way.
+    Free,
+    /// The system starts.
+    Boot,
+    /// A lower task, or the task itself as it leaves, activates this task.
+    Activation(usize),
+    /// A lower task, or the task itself, sets events of this task.
+    Setting(usize),
+    /// This lower task is raised.
+    Section(usize),
+    /// A round of this lower task is under way, which is not preemptable, and further ones may follow.
+    Round(usize),
+}
+
+/// A window.
+#[derive(Clone, Copy)]
+pub struct Window {
+    /// The task whose response is looked for, with all of at least its priority; none: all tasks are counted.
+    pub target: Option<usize>,
+    pub start: Start,
+    /// The counts in front, which no task of the level has.
+    pub front: u64,
+    /// Within how many counts arrivals are counted; none: within those of the window.
+    pub span: Option<u64>,
+}
+
+/// How often a task is made Ready.
+#[derive(Clone, Copy)]
+pub struct Made {
+    pub activations: u64,
+    /// By setting its events.
+    pub settings: u64,
+}
+
+impl Made {
+    /// So many times.
+    pub fn new(activations: u64, settings: u64) -> Made
+        ensures { result ≡ record { activations = activations; settings = settings } }
+    {
+        Made {
+            activations,
+            settings,
+        }
+    }
+}
+
+/// Never.
+pub const NEVER: Made = Made {
+    activations: 0,
+    settings: 0,
+};
+
+/// Which makings of a task count.
+#[derive(Clone, Copy)]
+pub enum Rule {
+    /// None: it is lower, or never comes.
+    Out,
+    /// Each setting of its events: it is lower, and a round of it is under way.
+    Settings,
+    /// Each.
+    Each,
+    /// One.
+    Once,
+}
+
+/// A window of a start, and its number.
+#[derive(Clone, Copy)]
+pub struct Longest {
+    /// Within how many counts the task leaves in it: 0 where nothing makes it Ready.
+    pub number: u32,
+    pub start: Start,
+    /// It opens with the event of its start; else with admissions in front of a service.
+    pub opens: bool,
+}
+
+/// The number of a window, if there is one.
+pub fn number_of(window: Option<Longest>) -> Option<u32>
+    ensures { result ≡ number_of window }
+{
+    Some(window?.number)
+}
+
+/// Something without a number, of a level.
+#[derive(Clone, Copy)]
+pub enum Untold {
+    /// Rounds of this task.
+    Rounds(usize),
+    /// How often rounds of the first task make the second one Ready.
+    Makings(usize, usize),
+    /// Sections of this lower task.
+    Section(usize),
+    /// How often they make some task of the level Ready.
+    SectionMakings(usize),
+}
+
+fn is_told(number: Option<u32>) -> bool
+    ensures { result ≡ is_told number }
+{
+    reckoned(number) < ENDLESS
+}
+
+fn unless_told(told: bool, thing: Untold) -> Option<Untold>
+    ensures { result ≡ cond told None (Some thing) }
+{
+    if told { None } else { Some(thing) }
+}
+
+// Rounds of task k, where they are not left out.
+fn untold_rounds(costs: &Costs, out: bool, k: usize) -> Option<Untold>
+    ensures { result ≡ cond out None (untold_rounds costs.now k) }
+{
+    let task = task(costs, k);
+    let told = is_told(task.first) && is_told(task.next);
+    unless_told(out || told, Untold::Rounds(k))
+}
+
+// How often they make task j Ready, where that is not left out.
+fn untold_making(costs: &Costs, out: bool, k: usize, j: usize) -> Option<Untold>
+    ensures { result ≡ cond out None (untold_making costs.now k j) }
+{
+    let m = making(costs, k, j);
+    let next = is_told(m.next_activations) && is_told(m.next_settings);
+    let told = is_told(m.first_activations) && (is_told(m.first_settings) && next);
+    unless_told(out || told, Untold::Makings(k, j))
+}
+
+fn level_makings(costs: &Costs, h: usize, k: usize) -> Option<Untold>
+    ensures { result ≡ level_makings costs.now h k }
+{
+    let mut found = None;
+    for j in 0..costs.tasks.items().len() {
+        let out = is_left_out(costs, h, k) || is_lower(costs, h, j);
+        found = found.or(untold_making(costs, out, k, j));
+    }
+    found
+}
+
+// Of a lower task whose rounds join: how often they make one of the level Ready, or itself, and the level makes it.
+fn untold_joined(costs: &Costs, h: usize, k: usize) -> Option<Untold>
+    ensures { result ≡ untold_joined costs.now h k }
+{
+    let mut makings = None;
+    let mut makers = None;
+    for j in 0..costs.tasks.items().len() {
+        let out = is_lower(costs, h, j) && k != j;
+        makings = makings.or(untold_making(costs, out, k, j));
+        makers = makers.or(untold_making(costs, is_left_out(costs, h, j), j, k));
+    }
+    untold_rounds(costs, false, k).or(makings.or(makers))
+}
+
+// Of one whose sections count.
+fn untold_apart(costs: &Costs, h: usize, k: usize) -> Option<Untold>
+    ensures { result ≡ untold_apart costs.now h k }
+{
+    let mut makings = None;
+    for j in 0..costs.tasks.items().len() {
+        let made = section_making(costs, h, k, j);
+        let told = is_told(made.activations) && is_told(made.settings);
+        makings = makings.or(unless_told(is_lower(costs, h, j) || told, Untold::SectionMakings(k)));
+    }
+    unless_told(is_told(section_counts(costs, h, k)), Untold::Section(k)).or(makings)
+}
+
+fn untold_lower(costs: &Costs, h: usize, k: usize) -> Option<Untold>
+    ensures { result ≡ untold_lower costs.now h k }
+{
+    if is_joined(costs, h, k) {
+        untold_joined(costs, h, k)
+    } else if is_apart(costs, h, k) {
+        untold_apart(costs, h, k)
+    } else {
+        None
+    }
+}
+
+/// The first that has no number, of all that the windows of a task are computed from: rounds of its level, how often
+/// they make tasks of it Ready, by the task that makes them first, and for each lower task in turn its sections, and
+/// how often they make tasks of the level Ready; or its rounds, if they join, and how often these make such tasks and
+/// it Ready, and the level makes it Ready.
+pub fn first_untold(costs: &Costs, h: usize) -> Option<Untold>
+    ensures is { result ≡ first_untold costs.now h }
+    ensures inside { (u : Untold) → result ≡ Some u → IsInside (length costs.now.tasks) u }
+{
+    let mut rounds = None;
+    let mut makings = None;
+    let mut lower = None;
+    for k in 0..costs.tasks.items().len() {
+        let out = is_left_out(costs, h, k);
+        rounds = rounds.or(untold_rounds(costs, out, k));
+        makings = makings.or(level_makings(costs, h, k));
+        lower = lower.or(untold_lower(costs, h, k));
+    }
+    rounds.or(makings.or(lower))
 }

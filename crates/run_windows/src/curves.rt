@@ -8,13 +8,12 @@ ghost use Rattle.run_windows.specs.Cycles.{IsRate, AreRatesOf, AreRates, IsCurve
 ghost use Rattle.run_windows.specs.Cycles.{one_share, AreMultiples, unmarked, rest};
 ghost use Rattle.run_windows.specs.Costs.{capped};
 
+use crate::costs::{AlarmCosts, Costs, Made, Makings, NEVER, Rule, Window};
 use crate::level::{counted, is_boot, makers, rule_of, task};
 use crate::rounds::{
     ENDLESS, acts_on, arrivals, made_within, number_of, of_makings, plus, reckoned, round_makings,
     times,
 };
-use crate::window::{NEVER, Rule, Window};
-use crate::{AlarmCosts, Costs, Made, Makings};
 use sloth_base::TASK_LIMIT;
 
 /// A number of makings of each task.
@@ -108,13 +107,10 @@ pub const RATE_SPAN: u64 = 2_147_483_647;
 pub fn arrival_rate(rate: u64, distance: Option<u32>) -> u64
     ensures { (counts x : ℕ) → IsRate rate counts x → IsRate result counts (arrivals x distance) }
 {
-    let Some(distance) = distance else {
-        return 0;
-    };
-    if distance == 0 {
-        return 0;
+    match distance {
+        Some(distance) if distance != 0 => rate / u64::from(distance),
+        _ => 0,
     }
-    rate / u64::from(distance)
 }
 
 // Of the expiries of an alarm, where ticks come at this rate.
@@ -206,21 +202,14 @@ pub fn raise_rates(costs: &Costs, window: &Window, due: bool, rates: &mut Row)
 pub fn is_open(which: Rule) -> bool
     ensures { result ≡ true → IsOpen which }
 {
-    match which {
-        Rule::Once => false,
-        Rule::Out | Rule::Settings | Rule::Each => true,
-    }
+    !matches!(which, Rule::Once)
 }
 
 // How often events of a task are set; or how often it is activated.
-fn share(sets: bool, made: Made) -> u64
-    ensures { result ≡ share_of sets made }
+fn share(sets: bool, all: Made) -> u64
+    ensures { result ≡ share_of sets all }
 {
-    if sets {
-        made.settings
-    } else {
-        made.activations
-    }
+    if sets { all.settings } else { all.activations }
 }
 
 fn one_share(sets: bool) -> Made
@@ -271,14 +260,10 @@ fn reach(costs: &Costs, window: &Window, sets: bool, t: usize, marks: &mut Row)
 fn unmarked(marks: Made, numbers: Made) -> Made
     ensures { result ≡ unmarked marks numbers }
 {
-    let mut rest = numbers;
-    if marks.activations != 0 {
-        rest.activations = 0;
-    }
-    if marks.settings != 0 {
-        rest.settings = 0;
-    }
-    rest
+    let (one, other) = (numbers.activations, numbers.settings);
+    let activations = if marks.activations == 0 { one } else { 0 };
+    let settings = if marks.settings == 0 { other } else { 0 };
+    Made::new(activations, settings)
 }
 
 // How often rounds of tasks that are not marked activate a task, or set its events.

@@ -3,13 +3,13 @@ ghost use Rattle.std.specs.Prelude.{◌≡◌, ◌≤◌, ◌&&◌};
 ghost use Rattle.run_windows.specs.Costs.{greatest_sum, reckoned, task, comes, making, makers, section_making};
 ghost use Rattle.run_windows.specs.Costs.{section, joins, lesser, section_counts};
 ghost use Rattle.run_windows.specs.Windows.{is_lower, is_left_out, is_round, rule_of, counted, greater};
-ghost use Rattle.run_windows.specs.Windows.{round_made, begun, is_boot};
+ghost use Rattle.run_windows.specs.Windows.{begun, is_boot};
 ghost use Rattle.run_windows.specs.RunWindows.{is_joined, is_apart, call_path, may_serve, services_front, makes};
 ghost use Rattle.run_windows.specs.RunWindows.{services_of, is_made_in_front, activation_front, setting_front};
 ghost use Rattle.run_windows.specs.RunWindows.{start_counts, start_service, front_of};
 
+use crate::costs::{NEVER, Rule, Window};
 use crate::rounds::reckoned;
-use crate::window::{NEVER, Rule, Window};
 use crate::{Costs, Made, Makings, SectionCosts, SectionMakings, Services, Start, TaskCosts};
 use code_lengths::{leaving_path, served_path};
 use sloth_base::Service;
@@ -142,17 +142,6 @@ pub fn greater(one: Option<u32>, other: Option<u32>) -> u64
     reckoned(one).max(reckoned(other))
 }
 
-// What a round of task k makes of task j, and of itself.
-fn round_made(costs: &Costs, k: usize, j: usize) -> Made
-    ensures { result ≡ round_made costs.now k j }
-{
-    let makings = making(costs, k, j);
-    Made {
-        activations: greater(makings.first_activations, makings.next_activations),
-        settings: greater(makings.first_settings, makings.next_settings) + u64::from(k == j),
-    }
-}
-
 /// What the start of a window makes of a task.
 pub fn begun(costs: &Costs, window: &Window, j: usize) -> Made
     ensures { result ≡ begun costs.now window.now j }
@@ -166,7 +155,12 @@ pub fn begun(costs: &Costs, window: &Window, j: usize) -> Made
             let made = section_making(costs, window.target.unwrap_or(0), k, j);
             Made::new(reckoned(made.activations), reckoned(made.settings))
         }
-        Start::Round(k) => round_made(costs, k, j),
+        Start::Round(k) => {
+            let makings = making(costs, k, j);
+            let settings = greater(makings.first_settings, makings.next_settings);
+            let activations = greater(makings.first_activations, makings.next_activations);
+            Made::new(activations, settings + u64::from(k == j))
+        }
     }
 }
 
@@ -177,14 +171,11 @@ pub fn is_boot(start: Start) -> bool
     matches!(start, Start::Boot)
 }
 
-/// How a task may be made Ready in front of a window.
+/// How a task may be made Ready in front of a window: by ActivateTask, ChainTask or SetEvent.
 #[derive(Clone, Copy)]
 pub enum Way {
-    /// By ActivateTask.
     Activation,
-    /// By ChainTask.
     Chain,
-    /// By SetEvent.
     Setting,
 }
 
@@ -313,12 +304,10 @@ pub fn is_apart(costs: &Costs, h: usize, k: usize) -> bool
 pub fn lesser(work: Option<u32>, sum: Option<u32>) -> Option<u32>
     ensures { result ≡ lesser work sum }
 {
-    match work {
-        Some(own) => match sum {
-            Some(counts) => Some(own.min(counts)),
-            None => Some(own),
-        },
-        None => sum,
+    match (work, sum) {
+        (Some(own), Some(counts)) => Some(own.min(counts)),
+        (Some(_), None) => work,
+        (None, _) => sum,
     }
 }
 

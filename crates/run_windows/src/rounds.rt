@@ -7,9 +7,8 @@ ghost use Rattle.run_windows.specs.Windows.{activations, settings, round_counts,
 ghost use Rattle.run_windows.specs.Arrivals.{arrivals, cyclic_expiries, expiries, acts_on, expiring, ticking};
 ghost use Rattle.run_windows.specs.Arrivals.{tick_counts};
 
+use crate::costs::{AlarmCosts, Costs, CounterCosts, Made, Makings, NEVER, TaskCosts, Window};
 use crate::level::{begun, counted, is_boot, makers, rule_of, task};
-use crate::window::{NEVER, Window};
-use crate::{AlarmCosts, Costs, CounterCosts, Made, Makings, TaskCosts};
 
 /// How often task k is made; never behind the last one.
 pub fn number_of(numbers: &[Made], k: usize) -> Made

@@ -13,13 +13,13 @@ use Rattle.sloth_base.specs.declared.app.ImmKind.TheVariants as imm
 use Rattle.sloth_base.specs.declared.app.BranchKind.{BranchKind}
 use Rattle.sloth_base.specs.declared.app.BranchKind.TheVariants as branch
 use Rattle.sloth_base.specs.declared.service.Service.{Service}
-use Rattle.sloth_base.specs.declared.places.Places.{Places}
+use Rattle.sloth_base.specs.declared.limits.Places.{Places}
 use Rattle.sloth_base.specs.Arithmetic.{hi, lo}
 use Rattle.sloth_base.specs.Blocks.{block_number}
 use Rattle.rv32_instr.specs.Access.{load, store}
 use Rattle.rv32_instr.specs.declared.InstrKind.{InstrKind}
 use Rattle.rv32_instr.specs.declared.InstrKind.TheVariants.{Lui, Auipc, Jal, Jalr, Beq, Bne, Blt, Bge, Bltu, Bgeu, Lw, Sw, Addi, Slti, Sltiu, Xori, Ori, Andi, Slli, Srli, Srai, Add, Sub, Sll, Slt, Sltu, Xor, Srl, Sra, Or, And}
-use Rattle.rv32_expand.specs.FarAccesses.{wide}
+use Rattle.rv32_expand.specs.FarAccesses.{far_indexed}
 
 -- ---- addresses
 
@@ -101,8 +101,12 @@ abbrev pub number_in : ℕ → ℕ → List InstrKind
 number_in rd value = Lui rd (hi value) ∷ Addi rd rd (lo value) ∷ []
 
 -- x31 is the address of a masked index into a symbol, less the low part
-abbrev pub index_code : ℕ → ℕ → ℕ → List InstrKind
+abbrev pub index_code : (index mask address : ℕ) → List InstrKind
 index_code index mask address = Andi 31 index (pos mask) ∷ Lui 30 (hi address) ∷ Add 31 31 30 ∷ []
+
+-- the access behind a masked index, where the mask may have no place in an instruction
+abbrev pub indexed : (index mask address : ℕ) → (access : InstrKind) → List InstrKind
+indexed index mask address access = if nat_le mask 2047 then index_code index mask address ++ (access ∷ []) else far_indexed index mask address ++ (access ∷ [])
 
 -- a branch at an address: the test itself, or where it is long, a jump to what x31 holds: the next item, or the target where the test holds
 abbrev pub branch_code : (long : Bool) → BranchKind → (a b address target : ℕ) → List InstrKind
@@ -146,11 +150,9 @@ operation_code app places func address long (op.Load w rd symbol offset) =
 operation_code app places func address long (op.Store w rs symbol offset) =
     Lui 31 (hi (symbol_address places symbol + offset)) ∷ store w rs 31 (lo (symbol_address places symbol + offset)) ∷ []
 operation_code app places func address long (op.LoadAt w rd symbol index mask) =
-    if nat_le mask 2047 then index_code index mask (symbol_address places symbol) ++ (load w rd 31 (lo (symbol_address places symbol)) ∷ [])
-    else wide (op.LoadAt w rd symbol index mask) (symbol_address places symbol)
+    indexed index mask (symbol_address places symbol) (load w rd 31 (lo (symbol_address places symbol)))
 operation_code app places func address long (op.StoreAt w rs symbol index mask) =
-    if nat_le mask 2047 then index_code index mask (symbol_address places symbol) ++ (store w rs 31 (lo (symbol_address places symbol)) ∷ [])
-    else wide (op.StoreAt w rs symbol index mask) (symbol_address places symbol)
+    indexed index mask (symbol_address places symbol) (store w rs 31 (lo (symbol_address places symbol)))
 operation_code app places func address long (op.Branch kind rs1 rs2 label) = branch_code long kind rs1 rs2 address (label_address app places func label)
 operation_code app places func address long (op.Jump label) = Jal 0 (distance address (label_address app places func label)) ∷ []
 operation_code app places func address long (op.Invoke callee) = call_code address (function app callee).frame_words (item_address places callee 0)

@@ -1,9 +1,8 @@
 -- An access by an index under a mask that is too large for an instruction.
-use Rattle.std.specs.Prelude.{ℕ, ◌<◌, ◌≤◌, List, [], ◌∷◌, ◌++◌}
+use Rattle.std.specs.Prelude.{ℕ, List, [], ◌∷◌, ◌++◌}
 use Rattle.sloth_base.specs.Arithmetic.{hi, lo}
 use Rattle.sloth_base.specs.declared.app.Op.{Op}
 use Rattle.sloth_base.specs.declared.app.Op.TheVariants as op
-use Rattle.sloth_base.specs.Limits.{mask_limit}
 use Rattle.rv32_instr.specs.Access.{load, store}
 use Rattle.rv32_instr.specs.declared.InstrKind.{InstrKind}
 use Rattle.rv32_instr.specs.declared.InstrKind.TheVariants.{Lui, Addi, Add, And}
@@ -17,13 +16,3 @@ abbrev pub wide : Op → (address : ℕ) → List InstrKind
 wide (op.LoadAt w rd symbol index mask) address = far_indexed index mask address ++ (load w rd 31 (lo address) ∷ [])
 wide (op.StoreAt w rs symbol index mask) address = far_indexed index mask address ++ (store w rs 31 (lo address) ∷ [])
 wide _ address = []
-
--- the mask has no place in an instruction, and is one that task code may have
-abbrev pub IsWideMask : ℕ → Type 0
-IsWideMask mask = (2048 ≤ mask) × (mask ≤ mask_limit)
-
--- an access by an index under such a mask
-abbrev pub IsWide : Op → Type 0
-IsWide (op.LoadAt w rd symbol index mask) = (rd < 32) × (index < 32) × IsWideMask mask
-IsWide (op.StoreAt w rs symbol index mask) = (rs < 32) × (index < 32) × IsWideMask mask
-IsWide _ = ⊥

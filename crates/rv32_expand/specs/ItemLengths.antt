@@ -5,7 +5,7 @@ use Rattle.sloth_base.specs.declared.app.App.{App}
 use Rattle.sloth_base.specs.declared.app.Func.{Func}
 use Rattle.sloth_base.specs.declared.app.Op.{Op}
 use Rattle.sloth_base.specs.declared.app.Op.TheVariants as op
-use Rattle.sloth_base.specs.declared.places.Places.{Places}
+use Rattle.sloth_base.specs.declared.limits.Places.{Places}
 use Rattle.code_rules.specs.AppRange.{IsTaskCode}
 use Rattle.rv32_instr.specs.Range.{AreInRange}
 use Rattle.rv32_instr.specs.declared.InstrKind.{InstrKind}

@@ -4,7 +4,7 @@ use Rattle.sloth_base.specs.Named.{function}
 use Rattle.sloth_base.specs.declared.app.App.{App}
 use Rattle.sloth_base.specs.declared.app.Op.{Op}
 use Rattle.sloth_base.specs.declared.app.Op.TheVariants as op
-use Rattle.sloth_base.specs.declared.places.Places.{Places}
+use Rattle.sloth_base.specs.declared.limits.Places.{Places}
 use Rattle.sloth_base.specs.Limits.{mask_limit, frame_limit}
 use Rattle.code_rules.specs.AppRange.{IsNumberOf}
 use Rattle.rv32_instr.specs.Range.{IsEven}

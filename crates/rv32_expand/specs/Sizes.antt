@@ -6,7 +6,7 @@ use Rattle.sloth_base.specs.declared.app.Call.{Call}
 use Rattle.sloth_base.specs.declared.app.Func.{Func}
 use Rattle.sloth_base.specs.declared.app.Op.TheVariants as op
 use Rattle.sloth_base.specs.declared.config.Config.{Config}
-use Rattle.sloth_base.specs.declared.places.Places.{Places}
+use Rattle.sloth_base.specs.declared.limits.Places.{Places}
 use Rattle.code_rules.specs.WellFormed.{WellFormed}
 use Rattle.rv32_expand.specs.Expansion.{item_address, symbol_address, block_address, expansion}
 use Rattle.sloth_base.specs.Named.{operation}

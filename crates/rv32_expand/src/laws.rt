@@ -1,5 +1,7 @@
 //! Laws on the instructions of items and their lengths.
-ghost use Rattle.rv32_expand.specs.ItemLengths.{LengthsAreSizes, ExpansionsAreFew, LeastIsOne, SizesAreOne, LeastAreLong, ItemsAreAdjacent, ShortBranchesReach, InstructionsAreInRange, LastCommits};
+ghost use Rattle.rv32_expand.specs.ItemLengths.{LengthsAreSizes, ExpansionsAreFew, LeastIsOne, SizesAreOne};
+ghost use Rattle.rv32_expand.specs.ItemLengths.{LeastAreLong, ItemsAreAdjacent, ShortBranchesReach};
+ghost use Rattle.rv32_expand.specs.ItemLengths.{InstructionsAreInRange, LastCommits};
 
 /// An operation has as many instructions wherever it stands.
 pub fn lengths_are_sizes()

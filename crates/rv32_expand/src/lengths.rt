@@ -1,6 +1,7 @@
 //! The length of an item. The least set of long branches of a body. The lengths of the items of all bodies.
 //! The instructions of an item where it stands. Where items, symbols and blocks of services stand.
-ghost use Rattle.std.specs.Prelude.{◌≡◌, true, ◌<◌, ◌↔◌, length, IfOk, IsTrue, ◌+◌, ◌^◌};
+//! Instructions as they are put together. The instructions of an item in their places.
+ghost use Rattle.std.specs.Prelude.{◌≡◌, true, ◌<◌, ◌↔◌, length, IfOk, IsTrue, ◌+◌, ◌^◌, ◌≤◌, ◌++◌, ◌∷◌, []};
 ghost use Rattle.code_rules.specs.AppRange.{IsTaskCode};
 ghost use Rattle.rv32_expand.specs.Long.{size, IsInBranchReach};
 ghost use Rattle.sloth_base.specs.Named.{label_of, function, item_of};
@@ -10,13 +11,15 @@ ghost use Rattle.sloth_base.specs.Limits.{item_limit};
 ghost use Rattle.rv32_expand.specs.Code.{IsCode};
 ghost use Rattle.rv32_expand.specs.Expansion.{item_address, is_long, expansion, symbol_address, block_address, label_address};
 ghost use Rattle.rv32_expand.specs.InPlace.{IsAppItem};
+ghost use Rattle.rv32_expand.specs.Nothing.{nop};
+ghost use Rattle.rv32_instr.specs.Range.{AreInRange};
 
-use crate::Expansion;
-use crate::draft_lengths::in_places;
 pub use crate::rows::distance;
 use crate::rows::{draft, size};
+use rv32_instr::{Instr, InstrKind, ZERO, addi};
 use sloth_base::{App, Func, Item, Op, Places, Result, Service, SymId, block_number};
 use std::alloc::{AllocError, Global};
+use std::marker::Model;
 
 /// The length of an item. A branch may be shorter.
 #[tactic(auto, using(crate::proofs::InRangeOf::frame_of))]
@@ -54,7 +57,6 @@ pub fn item_behind(body: &Func, label: u32) -> u32
     }
 }
 
-/// Whether a branch reaches from one address to the other.
 fn reaches(from: u32, to: u32) -> bool
     requires from_in { from < 0x4000_0000 }
     requires to_in { to < 0x4000_0000 }
@@ -107,7 +109,6 @@ fn pass(alloc: Global, app: &App, body: &Func, long: &[bool]) -> Result<Passed, 
     })
 }
 
-/// The lengths of the items that a set gives.
 fn lengths(alloc: Global, app: &App, body: &Func, long: &[bool]) -> Result<Vec<u32>, AllocError>
     requires small { IsCountable app.now body.now }
     requires same { length long.now ≡ length body.now.items }
@@ -177,34 +178,26 @@ pub fn expand(item: &Item, func: u32, index: u32, app: &App, places: &Places) ->
 pub fn item_address(places: &Places, func: u32, index: u32) -> u32
     ensures { result ≡ item_address places.now func index }
 {
-    let first = match places.first.items().get(func as usize) {
-        Some(first) => *first as usize,
-        None => 0,
-    };
-    match places.items.items().get(first + index as usize) {
-        Some(address) => *address,
-        None => 0,
-    }
+    let (firsts, items) = (places.first.items(), places.items.items());
+    let first = firsts.get(func as usize).copied().unwrap_or(0);
+    let place = first as usize + index as usize;
+    items.get(place).copied().unwrap_or(0)
 }
 
 /// The address of a symbol.
 pub fn symbol_address(places: &Places, symbol: SymId) -> u32
     ensures { result ≡ symbol_address places.now symbol }
 {
-    match places.symbols.items().get(symbol.0 as usize) {
-        Some(address) => *address,
-        None => 0,
-    }
+    let symbols = places.symbols.items();
+    symbols.get(symbol.0 as usize).copied().unwrap_or(0)
 }
 
 /// The address of the code of a service with its object.
 pub fn block_address(places: &Places, service: Service, object: u32) -> u32
     ensures { result ≡ block_address places.now service object }
 {
-    match places.blocks.get(block_number(service, object)) {
-        Some(address) => *address,
-        None => 0,
-    }
+    let number = block_number(service, object);
+    places.blocks.get(number).copied().unwrap_or(0)
 }
 
 /// The address of the item behind a label of a function.
@@ -215,4 +208,95 @@ pub fn label_address(app: &App, places: &Places, func: u32, label: u32) -> u32
         Some(body) => item_address(places, func, item_behind(body, label)),
         None => item_address(places, func, 0),
     }
+}
+
+/// The most instructions that an item has: those of a call of a function with 32 frame words.
+pub const LONGEST: usize = 36;
+
+/// Instructions whose numbers have not been judged. Contracts see their list.
+#[derive(Drop)]
+pub struct Draft {
+    len: usize,
+    kinds: [InstrKind; LONGEST],
+}
+
+impl Model for Draft {
+    ghost use Rattle.std.specs.Prelude.{List, take, ◌≤◌};
+    ghost use Rattle.rv32_instr.specs.declared.InstrKind.{InstrKind};
+
+    ghost Value = { List InstrKind };
+
+    ghost view = { λ draft. take draft.len draft.kinds };
+
+    ghost invariant = { λ draft. draft.len ≤ 36 };
+}
+
+/// Nothing is done.
+pub fn nop() -> InstrKind
+    ensures { result ≡ nop }
+{
+    addi(ZERO, ZERO, 0)
+}
+
+impl Draft {
+    /// No instruction.
+    pub fn new() -> Draft
+        ensures { result ≡ [] }
+    {
+        Draft {
+            len: 0,
+            kinds: [nop(); LONGEST],
+        }
+    }
+
+    /// These instructions.
+    pub fn of(kinds: &[InstrKind]) -> Draft
+        requires { length kinds.now ≤ 36 }
+        ensures { result ≡ kinds.now }
+    {
+        let mut draft = Draft::new();
+        for kind in kinds {
+            draft.push(*kind);
+        }
+        draft
+    }
+
+    /// The instructions so far.
+    pub fn kinds(&self) -> &[InstrKind]
+        ensures is { result.now ≡ self.now }
+        ensures few { length result.now ≤ 36 }
+    {
+        &self.kinds[..self.len]
+    }
+
+    /// Adds an instruction.
+    pub fn push(&mut self, kind: InstrKind)
+        requires { length self.old < 36 }
+        ensures { self.new ≡ self.old ++ kind ∷ [] }
+    {
+        self.kinds[self.len] = kind;
+        self.len += 1;
+    }
+}
+
+/// The instructions of an item, the one that commits it last.
+#[derive(Clone, Copy)]
+pub struct Expansion {
+    pub len: u32,
+    /// Behind the last one stands `addi x0, x0, 0`.
+    pub code: [Instr; LONGEST],
+}
+
+/// The instructions, each of which has a word, in their places.
+pub fn in_places(kinds: &[InstrKind]) -> Expansion
+    requires few { length kinds.now ≤ 36 }
+    requires in_range { AreInRange kinds.now }
+    ensures { IsCode kinds.now result }
+{
+    let mut code = [Instr::of(nop()); LONGEST];
+    for index in 0..kinds.len() {
+        code[index] = Instr::of(kinds[index]);
+    }
+    let len = kinds.len() as u32;
+    Expansion { len, code }
 }

@@ -1,24 +1,23 @@
 //! The instructions of each operation. The instructions of a call. How many instructions an item has.
-ghost use Rattle.std.specs.Prelude.{◌≡◌, ◌≤◌, ◌<◌, ◌+◌, ◌*◌, ◌^◌, ◌++◌, ◌∷◌, [], length, pos, ℕ};
+//! Instructions of one kind of operation.
+ghost use Rattle.std.specs.Prelude.{◌≡◌, ◌≤◌, ◌<◌, ◌+◌, ◌*◌, ◌^◌, ◌∷◌, [], length, pos, ℕ};
 ghost use Rattle.sloth_base.specs.Arithmetic.{hi};
 ghost use Rattle.sloth_base.specs.Limits.{frame_limit};
-ghost use Rattle.rv32_expand.specs.FarAccesses.{wide, IsWide};
 ghost use Rattle.rv32_instr.specs.Range.{IsSigned};
 ghost use Rattle.rv32_instr.specs.declared.InstrKind.TheVariants.{Lui, Addi, Lw, Jalr};
-ghost use Rattle.rv32_expand.specs.Expansion.{distance, block_address, index_code, branch_code, mask_of, service_jump, operation_code, call_code};
+ghost use Rattle.rv32_expand.specs.Expansion.{distance, block_address, indexed, branch_code, mask_of, service_jump, operation_code, call_code, register_operation, number_operation, test, opposite};
 ghost use Rattle.rv32_expand.specs.NumberRange.{HasBranchRoom, HasNumbersInRange};
 ghost use Rattle.sloth_base.specs.Named.{function};
 ghost use Rattle.rv32_expand.specs.Long.{size};
+ghost use Rattle.code_rules.specs.AppRange.{IsNumberOf};
 
-use crate::draft_lengths::Draft;
 use crate::item_address;
-use crate::lengths::{block_address, label_address, symbol_address};
-use crate::operations::{number_operation, opposite, register_operation, test};
+use crate::lengths::{Draft, block_address, label_address, symbol_address};
 use rv32_instr::{
-    InstrKind, X2, X30, X31, ZERO, add, addi, andi, auipc, hi, jal, jalr, lo, load, lui, lw, store,
-    sw,
+    InstrKind, X2, X30, X31, ZERO, add, addi, and, andi, auipc, hi, jal, jalr, lo, load, lui, lw,
+    slli, srai, srli, store, sw,
 };
-use sloth_base::{App, BranchKind, Call, FuncId, Item, Op, Places, Reg, Service};
+use sloth_base::{AluKind, App, BranchKind, Call, FuncId, ImmKind, Item, Op, Places, Reg, Service};
 
 /// An access to an address of data, whose low part is in the access.
 fn direct(address: u32, access: InstrKind) -> Draft
@@ -27,32 +26,18 @@ fn direct(address: u32, access: InstrKind) -> Draft
     Draft::of(&[lui(X31, hi(address)), access])
 }
 
-/// The same behind a masked index.
+/// The same behind an index under a mask, which may have no place in an instruction.
 fn indexed(index: Reg, mask: u32, address: u32, access: InstrKind) -> Draft
-    requires { mask ≤ 2047 }
-    ensures { result ≡ index_code index mask address ++ (access ∷ []) }
+    ensures { result ≡ indexed index mask address access }
 {
-    Draft::of(&[
-        andi(X31, index, mask as i32),
-        lui(X30, hi(address)),
-        add(X31, X31, X30),
-        access,
-    ])
-}
-
-/// The same where the mask has no place in an instruction.
-fn far_indexed(item: &Item, address: u32) -> Draft
-    requires { IsWide item.now.op }
-    ensures { result ≡ wide item.now.op address }
-{
-    let mut draft = Draft::of(&[]);
-    for instr in &crate::far_accesses::wide(item, address)[..] {
-        draft.push(instr.kind());
+    let (base, sum) = (lui(X30, hi(address)), add(X31, X31, X30));
+    if mask <= NEAR_MASK {
+        return Draft::of(&[andi(X31, index, mask as i32), base, sum, access]);
     }
-    draft
+    let (low, masked) = (addi(X30, X30, lo(mask)), and(X31, index, X30));
+    Draft::of(&[lui(X30, hi(mask)), low, masked, base, sum, access])
 }
 
-/// A branch at `at`, which is long or not.
 fn branch(long: bool, kind: BranchKind, a: Reg, b: Reg, at: u32, target: u32) -> Draft
     requires { HasBranchRoom long at target }
     ensures { result ≡ branch_code long kind a b at target }
@@ -71,19 +56,18 @@ fn branch(long: bool, kind: BranchKind, a: Reg, b: Reg, at: u32, target: u32) ->
     ])
 }
 
-/// The way back from a function with so many words of frame.
 fn way_back(words: u32) -> Draft
     requires { words ≤ frame_limit }
     ensures { result ≡ Lw 31 2 (pos (4 * words)) ∷ Addi 2 2 (pos (4 + 4 * words)) ∷ Jalr 0 31 (pos 12) ∷ [] }
 {
+    let offset = frame_offset(words);
     Draft::of(&[
-        lw(X31, X2, frame_offset(words)),
-        addi(X2, X2, 4 + frame_offset(words)),
+        lw(X31, X2, offset),
+        addi(X2, X2, 4 + offset),
         jalr(ZERO, X31, 12),
     ])
 }
 
-/// The mask of a service in x30, where it has one.
 fn mask_of(service: Service, mask: u32) -> Draft
     ensures is { result ≡ mask_of service mask }
     ensures few { length result ≤ 2 }
@@ -97,7 +81,8 @@ fn mask_of(service: Service, mask: u32) -> Draft
 /// The jump, from `at` on, to the block of a service.
 fn serve(call: Call, at: u32, places: &Places) -> Draft
     requires at_in { at < 2 ^ 31 + 2 ^ 22 }
-    requires near { IsSigned 21 (distance (at + 4 * length (mask_of call.service call.mask)) (block_address places.now call.service call.object)) }
+    requires near { IsSigned 21 (distance (at + 4 * length (mask_of call.service call.mask))
+        (block_address places.now call.service call.object)) }
     ensures { result ≡ service_jump places.now call at }
 {
     let mut draft = mask_of(call.service, call.mask);
@@ -145,11 +130,7 @@ pub fn draft(item: &Item, func: u32, at: u32, long: bool, app: &App, places: &Pl
             mask,
         } => {
             let address = symbol_address(places, symbol);
-            if mask <= NEAR_MASK {
-                indexed(index, mask, address, load(width, rd, X31, lo(address)))
-            } else {
-                far_indexed(item, address)
-            }
+            indexed(index, mask, address, load(width, rd, X31, lo(address)))
         }
         Op::StoreAt {
             width,
@@ -159,11 +140,7 @@ pub fn draft(item: &Item, func: u32, at: u32, long: bool, app: &App, places: &Pl
             mask,
         } => {
             let address = symbol_address(places, symbol);
-            if mask <= NEAR_MASK {
-                indexed(index, mask, address, store(width, rs, X31, lo(address)))
-            } else {
-                far_indexed(item, address)
-            }
+            indexed(index, mask, address, store(width, rs, X31, lo(address)))
         }
         Op::Branch {
             kind,
@@ -171,14 +148,8 @@ pub fn draft(item: &Item, func: u32, at: u32, long: bool, app: &App, places: &Pl
             rs2,
             label,
         } => {
-            branch(
-                long,
-                kind,
-                rs1,
-                rs2,
-                at,
-                label_address(app, places, func, label),
-            )
+            let target = label_address(app, places, func, label);
+            branch(long, kind, rs1, rs2, at, target)
         }
         Op::Jump { label } => {
             one(jal(ZERO, distance(at, label_address(app, places, func, label))))
@@ -268,5 +239,69 @@ pub fn size(op: Op, app: &App, long: bool) -> u32
         Op::Invoke { func } => 4 + frame_words(app, func),
         Op::Return => 3,
         Op::Serve(call) => mask_length(call.service) + 1,
+    }
+}
+
+/// An operation on two registers.
+pub fn register_operation(kind: AluKind, rd: Reg, rs1: Reg, rs2: Reg) -> InstrKind
+    ensures { result ≡ register_operation kind rd rs1 rs2 }
+{
+    match kind {
+        AluKind::Add => InstrKind::Add { rd, rs1, rs2 },
+        AluKind::Sub => InstrKind::Sub { rd, rs1, rs2 },
+        AluKind::Sll => InstrKind::Sll { rd, rs1, rs2 },
+        AluKind::Slt => InstrKind::Slt { rd, rs1, rs2 },
+        AluKind::Sltu => InstrKind::Sltu { rd, rs1, rs2 },
+        AluKind::Xor => InstrKind::Xor { rd, rs1, rs2 },
+        AluKind::Srl => InstrKind::Srl { rd, rs1, rs2 },
+        AluKind::Sra => InstrKind::Sra { rd, rs1, rs2 },
+        AluKind::Or => InstrKind::Or { rd, rs1, rs2 },
+        AluKind::And => InstrKind::And { rd, rs1, rs2 },
+    }
+}
+
+/// An operation on a register and a number.
+pub fn number_operation(kind: ImmKind, rd: Reg, rs1: Reg, imm: i32) -> InstrKind
+    requires { IsNumberOf kind imm }
+    ensures { result ≡ number_operation kind rd rs1 imm }
+{
+    match kind {
+        ImmKind::Addi => InstrKind::Addi { rd, rs1, imm },
+        ImmKind::Slti => InstrKind::Slti { rd, rs1, imm },
+        ImmKind::Sltiu => InstrKind::Sltiu { rd, rs1, imm },
+        ImmKind::Xori => InstrKind::Xori { rd, rs1, imm },
+        ImmKind::Ori => InstrKind::Ori { rd, rs1, imm },
+        ImmKind::Andi => InstrKind::Andi { rd, rs1, imm },
+        ImmKind::Slli => slli(rd, rs1, imm as u8),
+        ImmKind::Srli => srli(rd, rs1, imm as u8),
+        ImmKind::Srai => srai(rd, rs1, imm as u8),
+    }
+}
+
+/// Goes on at `imm` bytes from here where the test of two registers holds.
+pub fn test(kind: BranchKind, rs1: Reg, rs2: Reg, imm: i32) -> InstrKind
+    ensures { result ≡ test kind rs1 rs2 imm }
+{
+    match kind {
+        BranchKind::Beq => InstrKind::Beq { rs1, rs2, imm },
+        BranchKind::Bne => InstrKind::Bne { rs1, rs2, imm },
+        BranchKind::Blt => InstrKind::Blt { rs1, rs2, imm },
+        BranchKind::Bge => InstrKind::Bge { rs1, rs2, imm },
+        BranchKind::Bltu => InstrKind::Bltu { rs1, rs2, imm },
+        BranchKind::Bgeu => InstrKind::Bgeu { rs1, rs2, imm },
+    }
+}
+
+/// The test that holds where the other does not.
+pub fn opposite(kind: BranchKind) -> BranchKind
+    ensures { result ≡ opposite kind }
+{
+    match kind {
+        BranchKind::Beq => BranchKind::Bne,
+        BranchKind::Bne => BranchKind::Beq,
+        BranchKind::Blt => BranchKind::Bge,
+        BranchKind::Bge => BranchKind::Blt,
+        BranchKind::Bltu => BranchKind::Bgeu,
+        BranchKind::Bgeu => BranchKind::Bltu,
     }
 }

@@ -7,7 +7,7 @@ use Rattle.sloth_base.specs.Choose.{choose, choose_line, best_line_below}
 use Rattle.sloth_base.specs.Take.{execution_state}
 use Rattle.rv32_instr.specs.declared.csr.TheConstants.{MSTATUS, ILEVEL}
 use Rattle.rv32_instr.specs.declared.InstrKind.TheVariants.{Jal, Jalr, Lb, Lw, Lh, Sb, Sw, Csrrs, Csrrw, Csrrci, Mret}
-use Rattle.rv32_instr.specs.declared.effect.Stop.TheVariants as stop
+use Rattle.rv32_instr.specs.declared.encoding.Stop.TheVariants as stop
 use Rattle.rv32_instr.specs.Words.{word}
 use Rattle.rv32_instr.specs.Table.{Decode, immediate}
 use Rattle.rv32_instr.specs.Ram.{word_at, half_at, with_word}

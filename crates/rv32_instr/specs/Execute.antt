@@ -1,15 +1,15 @@
 -- One instruction of the machine: what it leaves, or why it stops, which changes nothing.
 use Rattle.std.specs.Prelude.{ℕ, zero, suc, ◌+◌, ◌-◌, ◌/◌, ◌%◌, ◌^◌, Option, Some, None, true, if◌then◌else◌, ◌==◌, ◌&&◌, nat_le, nat_lt, bit_and, bit_or, slice_set}
 use Rattle.sloth_base.specs.Machine.{Core, State}
-use Rattle.rv32_instr.specs.declared.effect.Bad.{Bad}
-use Rattle.rv32_instr.specs.declared.effect.Bad.TheVariants as bad
-use Rattle.rv32_instr.specs.declared.effect.Stop.{Stop}
-use Rattle.rv32_instr.specs.declared.effect.Stop.TheVariants as stop
+use Rattle.rv32_instr.specs.declared.encoding.Bad.{Bad}
+use Rattle.rv32_instr.specs.declared.encoding.Bad.TheVariants as bad
+use Rattle.rv32_instr.specs.declared.encoding.Stop.{Stop}
+use Rattle.rv32_instr.specs.declared.encoding.Stop.TheVariants as stop
 use Rattle.rv32_instr.specs.declared.csr.TheConstants.{MSTATUS, MSCRATCH, MEPC, ILEVEL, PLEVEL}
-use Rattle.rv32_instr.specs.declared.effect.Change.{Change}
-use Rattle.rv32_instr.specs.declared.effect.Change.TheVariants.{Keep, Replace, Set, Clear}
-use Rattle.rv32_instr.specs.declared.effect.Effect.{Effect}
-use Rattle.rv32_instr.specs.declared.effect.Effect.TheVariants.{Nothing, Write, Branch, Jump, Load, Store, Csr, Environment, Return}
+use Rattle.rv32_instr.specs.declared.encoding.Change.{Change}
+use Rattle.rv32_instr.specs.declared.encoding.Change.TheVariants.{Keep, Replace, Set, Clear}
+use Rattle.rv32_instr.specs.declared.encoding.Effect.{Effect}
+use Rattle.rv32_instr.specs.declared.encoding.Effect.TheVariants.{Nothing, Write, Branch, Jump, Load, Store, Csr, Environment, Return}
 use Rattle.rv32_instr.specs.declared.InstrKind.{InstrKind}
 use Rattle.rv32_instr.specs.Encode.{Encode}
 use Rattle.rv32_instr.specs.Table.{Decode}

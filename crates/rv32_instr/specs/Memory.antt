@@ -4,8 +4,8 @@ use Rattle.sloth_base.specs.declared.app.Width.{Width}
 use Rattle.sloth_base.specs.declared.app.Width.TheVariants as width
 use Rattle.sloth_base.specs.Machine.{Core}
 use Rattle.sloth_base.specs.Lines.{Lines, lines_of, controller_byte, with_controller_byte}
-use Rattle.rv32_instr.specs.declared.effect.Bad.{Bad}
-use Rattle.rv32_instr.specs.declared.effect.Bad.TheVariants as bad
+use Rattle.rv32_instr.specs.declared.encoding.Bad.{Bad}
+use Rattle.rv32_instr.specs.declared.encoding.Bad.TheVariants as bad
 use Rattle.sloth_base.specs.Arithmetic.{sign_extension, size_of}
 use Rattle.sloth_base.specs.MemoryMap.{memory_base, memory_end, controller_base, controller_bytes}
 use Rattle.rv32_instr.specs.Ram.{half_at, word_at, with_byte, with_half, with_word}

@@ -1,10 +1,9 @@
 //! Instructions by mnemonic, operands in the order of RISC-V assembly; loads and stores name the base, then the offset.
 //! The loads and stores of memory by their width.
 ghost use Rattle.std.specs.Prelude.{◌≡◌};
-ghost use Rattle.rv32_instr.specs.declared.InstrKind.TheVariants.{Lui, Auipc, Jal, Jalr, Beq, Bne, Blt, Bge, Bltu};
-ghost use Rattle.rv32_instr.specs.declared.InstrKind.TheVariants.{Bgeu, Lb, Lh, Lw, Lbu, Lhu, Sb, Sh, Sw, Addi, Slti};
-ghost use Rattle.rv32_instr.specs.declared.InstrKind.TheVariants.{Sltiu, Xori, Ori, Andi, Slli, Srli, Srai, Add, Sub};
-ghost use Rattle.rv32_instr.specs.declared.InstrKind.TheVariants.{Sll, Slt, Sltu, Xor, Srl, Sra, Or, And, Csrrw, Csrrs};
+ghost use Rattle.rv32_instr.specs.declared.InstrKind.TheVariants.{Lui, Auipc, Jal, Jalr, Beq, Bne, Bltu, Bgeu, Lb, Lh};
+ghost use Rattle.rv32_instr.specs.declared.InstrKind.TheVariants.{Lw, Lbu, Lhu, Sb, Sh, Sw, Addi, Xori, Andi, Slli};
+ghost use Rattle.rv32_instr.specs.declared.InstrKind.TheVariants.{Srli, Srai, Add, Sub, Sltu, Xor, Or, And, Csrrw, Csrrs};
 ghost use Rattle.rv32_instr.specs.declared.InstrKind.TheVariants.{Csrrwi, Csrrci, Mret};
 ghost use Rattle.rv32_instr.specs.Access.{load, store};
 
@@ -71,20 +70,6 @@ pub fn bne(rs1: Reg, rs2: Reg, imm: i32) -> InstrKind
     InstrKind::Bne { rs1, rs2, imm }
 }
 
-/// The same where rs1 is less than rs2, as signed numbers.
-pub fn blt(rs1: Reg, rs2: Reg, imm: i32) -> InstrKind
-    ensures { result ≡ Blt rs1 rs2 imm }
-{
-    InstrKind::Blt { rs1, rs2, imm }
-}
-
-/// The same where rs1 is rs2 or greater, as signed numbers.
-pub fn bge(rs1: Reg, rs2: Reg, imm: i32) -> InstrKind
-    ensures { result ≡ Bge rs1 rs2 imm }
-{
-    InstrKind::Bge { rs1, rs2, imm }
-}
-
 /// The same where rs1 is less than rs2.
 pub fn bltu(rs1: Reg, rs2: Reg, imm: i32) -> InstrKind
     ensures { result ≡ Bltu rs1 rs2 imm }
@@ -92,25 +77,11 @@ pub fn bltu(rs1: Reg, rs2: Reg, imm: i32) -> InstrKind
     InstrKind::Bltu { rs1, rs2, imm }
 }
 
-/// The same where rs1 is rs2 or greater.
+/// The same where rs1 is not less than rs2.
 pub fn bgeu(rs1: Reg, rs2: Reg, imm: i32) -> InstrKind
     ensures { result ≡ Bgeu rs1 rs2 imm }
 {
     InstrKind::Bgeu { rs1, rs2, imm }
-}
-
-/// rd := the byte at rs1 + imm, with its sign.
-pub fn lb(rd: Reg, rs1: Reg, imm: i32) -> InstrKind
-    ensures { result ≡ Lb rd rs1 imm }
-{
-    InstrKind::Lb { rd, rs1, imm }
-}
-
-/// rd := the half word at rs1 + imm, with its sign.
-pub fn lh(rd: Reg, rs1: Reg, imm: i32) -> InstrKind
-    ensures { result ≡ Lh rd rs1 imm }
-{
-    InstrKind::Lh { rd, rs1, imm }
 }
 
 /// rd := the word at rs1 + imm.
@@ -127,13 +98,6 @@ pub fn lbu(rd: Reg, rs1: Reg, imm: i32) -> InstrKind
     InstrKind::Lbu { rd, rs1, imm }
 }
 
-/// rd := the half word at rs1 + imm.
-pub fn lhu(rd: Reg, rs1: Reg, imm: i32) -> InstrKind
-    ensures { result ≡ Lhu rd rs1 imm }
-{
-    InstrKind::Lhu { rd, rs1, imm }
-}
-
 /// The word at rs1 + imm := rs2.
 pub fn sw(rs2: Reg, rs1: Reg, imm: i32) -> InstrKind
     ensures { result ≡ Sw rs1 rs2 imm }
@@ -148,13 +112,6 @@ pub fn sb(rs2: Reg, rs1: Reg, imm: i32) -> InstrKind
     InstrKind::Sb { rs1, rs2, imm }
 }
 
-/// The half word at rs1 + imm := the low half of rs2.
-pub fn sh(rs2: Reg, rs1: Reg, imm: i32) -> InstrKind
-    ensures { result ≡ Sh rs1 rs2 imm }
-{
-    InstrKind::Sh { rs1, rs2, imm }
-}
-
 /// rd := rs1 + imm.
 pub fn addi(rd: Reg, rs1: Reg, imm: i32) -> InstrKind
     ensures { result ≡ Addi rd rs1 imm }
@@ -162,32 +119,11 @@ pub fn addi(rd: Reg, rs1: Reg, imm: i32) -> InstrKind
     InstrKind::Addi { rd, rs1, imm }
 }
 
-/// rd := 1 where rs1 is less than imm, as signed numbers, else 0.
-pub fn slti(rd: Reg, rs1: Reg, imm: i32) -> InstrKind
-    ensures { result ≡ Slti rd rs1 imm }
-{
-    InstrKind::Slti { rd, rs1, imm }
-}
-
-/// rd := 1 where rs1 is less than the word of imm, else 0.
-pub fn sltiu(rd: Reg, rs1: Reg, imm: i32) -> InstrKind
-    ensures { result ≡ Sltiu rd rs1 imm }
-{
-    InstrKind::Sltiu { rd, rs1, imm }
-}
-
 /// rd := rs1 ^ imm.
 pub fn xori(rd: Reg, rs1: Reg, imm: i32) -> InstrKind
     ensures { result ≡ Xori rd rs1 imm }
 {
     InstrKind::Xori { rd, rs1, imm }
-}
-
-/// rd := rs1 | imm.
-pub fn ori(rd: Reg, rs1: Reg, imm: i32) -> InstrKind
-    ensures { result ≡ Ori rd rs1 imm }
-{
-    InstrKind::Ori { rd, rs1, imm }
 }
 
 /// rd := rs1 & imm.
@@ -232,20 +168,6 @@ pub fn sub(rd: Reg, rs1: Reg, rs2: Reg) -> InstrKind
     InstrKind::Sub { rd, rs1, rs2 }
 }
 
-/// rd := rs1 << the low five bits of rs2.
-pub fn sll(rd: Reg, rs1: Reg, rs2: Reg) -> InstrKind
-    ensures { result ≡ Sll rd rs1 rs2 }
-{
-    InstrKind::Sll { rd, rs1, rs2 }
-}
-
-/// rd := 1 where rs1 is less than rs2, as signed numbers, else 0.
-pub fn slt(rd: Reg, rs1: Reg, rs2: Reg) -> InstrKind
-    ensures { result ≡ Slt rd rs1 rs2 }
-{
-    InstrKind::Slt { rd, rs1, rs2 }
-}
-
 /// rd := 1 where rs1 is less than rs2, else 0.
 pub fn sltu(rd: Reg, rs1: Reg, rs2: Reg) -> InstrKind
     ensures { result ≡ Sltu rd rs1 rs2 }
@@ -258,20 +180,6 @@ pub fn xor(rd: Reg, rs1: Reg, rs2: Reg) -> InstrKind
     ensures { result ≡ Xor rd rs1 rs2 }
 {
     InstrKind::Xor { rd, rs1, rs2 }
-}
-
-/// rd := rs1 >> the low five bits of rs2.
-pub fn srl(rd: Reg, rs1: Reg, rs2: Reg) -> InstrKind
-    ensures { result ≡ Srl rd rs1 rs2 }
-{
-    InstrKind::Srl { rd, rs1, rs2 }
-}
-
-/// rd := rs1 >> the low five bits of rs2, with the sign.
-pub fn sra(rd: Reg, rs1: Reg, rs2: Reg) -> InstrKind
-    ensures { result ≡ Sra rd rs1 rs2 }
-{
-    InstrKind::Sra { rd, rs1, rs2 }
 }
 
 /// rd := rs1 | rs2.
@@ -323,26 +231,26 @@ pub fn mret() -> InstrKind
     InstrKind::Mret
 }
 
-/// rd := what stands at base + offset.
-pub fn load(width: Width, rd: Reg, base: Reg, offset: i32) -> InstrKind
-    ensures { result ≡ load width rd base offset }
+/// rd := what stands at rs1 + imm.
+pub fn load(width: Width, rd: Reg, rs1: Reg, imm: i32) -> InstrKind
+    ensures { result ≡ load width rd rs1 imm }
 {
     match width {
-        Width::Byte => lb(rd, base, offset),
-        Width::Half => lh(rd, base, offset),
-        Width::Word => lw(rd, base, offset),
-        Width::ByteU => lbu(rd, base, offset),
-        Width::HalfU => lhu(rd, base, offset),
+        Width::Byte => InstrKind::Lb { rd, rs1, imm },
+        Width::Half => InstrKind::Lh { rd, rs1, imm },
+        Width::Word => InstrKind::Lw { rd, rs1, imm },
+        Width::ByteU => InstrKind::Lbu { rd, rs1, imm },
+        Width::HalfU => InstrKind::Lhu { rd, rs1, imm },
     }
 }
 
-/// What stands at base + offset := the low part of rs.
-pub fn store(width: Width, rs: Reg, base: Reg, offset: i32) -> InstrKind
-    ensures { result ≡ store width rs base offset }
+/// What stands at rs1 + imm := the low part of rs2.
+pub fn store(width: Width, rs2: Reg, rs1: Reg, imm: i32) -> InstrKind
+    ensures { result ≡ store width rs2 rs1 imm }
 {
     match width {
-        Width::Byte | Width::ByteU => sb(rs, base, offset),
-        Width::Half | Width::HalfU => sh(rs, base, offset),
-        Width::Word => sw(rs, base, offset),
+        Width::Byte | Width::ByteU => InstrKind::Sb { rs1, rs2, imm },
+        Width::Half | Width::HalfU => InstrKind::Sh { rs1, rs2, imm },
+        Width::Word => InstrKind::Sw { rs1, rs2, imm },
     }
 }

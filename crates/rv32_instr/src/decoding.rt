@@ -1,25 +1,20 @@
 //! From a word to its instruction.
-
-ghost use Rattle.std.specs.Prelude.{◌≡◌, Some, ◌↔◌};
-ghost use Rattle.rv32_instr.specs.Words.{opcode, rd, funct3, rs1, rs2, funct7, csr, imm_i, imm_s, imm_b, imm_u, imm_j};
-ghost use Rattle.rv32_instr.specs.Table.{Decode, jump, branch, load, store, immediate, register, control, fence};
-ghost use Rattle.rv32_instr.specs.Table.{system};
+//! Parts of a word. The two parts of a 32-bit constant: `lui` loads the one, and `addi` adds the other.
+ghost use Rattle.std.specs.Prelude.{◌≡◌, Some, ◌↔◌, ◌<◌, ◌^◌};
+ghost use Rattle.rv32_instr.specs.Words.{rd, funct3, rs1, rs2, funct7, imm_i, imm_s, imm_b, imm_u, imm_j};
+ghost use Rattle.rv32_instr.specs.Table.{Decode, jump, branch, load, store, immediate, register, control, fence, system};
 ghost use Rattle.rv32_instr.specs.Encode.{IsWordOf};
 ghost use Rattle.rv32_instr.specs.declared.InstrKind.{InstrKind};
+ghost use Rattle.rv32_instr.specs.Fields.{bits, part};
+ghost use Rattle.sloth_base.specs.Arithmetic.{signed, hi, lo};
+ghost use Rattle.rv32_instr.specs.Range.{IsSigned};
 
 use crate::asm::{auipc, jal, lui};
 use crate::encoding::{
     AUIPC, BRANCH, EBREAK, ECALL, JAL, JALR, LOAD, LUI, MISC_MEM, MRET, OP, OP_IMM, STORE, SYSTEM,
 };
-use crate::fields::{bits, signed};
 use crate::{Instr, InstrKind};
 use sloth_base::Reg;
-
-fn opcode(word: u32) -> u32
-    ensures { result ≡ opcode word }
-{
-    bits(word, 0, 7)
-}
 
 fn rd(word: u32) -> Reg
     ensures { result ≡ rd word }
@@ -49,12 +44,6 @@ fn funct7(word: u32) -> u32
     ensures { result ≡ funct7 word }
 {
     bits(word, 25, 7)
-}
-
-fn csr(word: u32) -> u16
-    ensures { result ≡ csr word }
-{
-    bits(word, 20, 12) as u16
 }
 
 fn imm_i(word: u32) -> i32
@@ -222,7 +211,7 @@ fn system(word: u32) -> Option<InstrKind>
         ECALL => Some(InstrKind::Ecall),
         EBREAK => Some(InstrKind::Ebreak),
         MRET => Some(InstrKind::Mret),
-        _ => control(funct3(word), rd(word), rs1(word), csr(word)),
+        _ => control(funct3(word), rd(word), rs1(word), bits(word, 20, 12) as u16),
     }
 }
 
@@ -230,7 +219,7 @@ fn system(word: u32) -> Option<InstrKind>
 fn decode_kind(word: u32) -> Option<InstrKind>
     ensures { result ≡ Decode word }
 {
-    match opcode(word) {
+    match bits(word, 0, 7) {
         LUI => Some(lui(rd(word), imm_u(word))),
         AUIPC => Some(auipc(rd(word), imm_u(word))),
         JAL => Some(jal(rd(word), imm_j(word))),
@@ -261,4 +250,53 @@ pub fn decode(word: u32) -> Option<Instr>
 {
     let kind = decode_kind(word)?;
     Some(Instr::of(kind))
+}
+
+/// `count` bits of a word, from bit `low` up.
+pub fn bits(word: u32, low: u32, count: u32) -> u32
+    requires { (low < 32) × (count < 32) }
+    ensures is { result ≡ bits word low count }
+    ensures below { result < 2 ^ count }
+{
+    (word >> low) & ((1 << count) - 1)
+}
+
+/// The signed number whose two's complement is the low `count` bits of `value`.
+pub fn signed(value: u32, count: u32) -> i32
+    requires { (0 < count) × (count < 31) × (value < 2 ^ count) }
+    ensures is { result ≡ signed count value }
+    ensures fits { IsSigned count result }
+{
+    if value < 1 << (count - 1) {
+        value as i32
+    } else {
+        value as i32 - (1 << count)
+    }
+}
+
+/// `count` bits of a number's two's complement, from bit `low` up.
+pub fn part(value: i32, low: u32, count: u32) -> u32
+    requires { (low < 32) × (count < 32) }
+    ensures is { result ≡ part value low count }
+    ensures below { result < 2 ^ count }
+{
+    bits(value.cast_unsigned(), low, count)
+}
+
+/// Bits 31 to 12 of a constant, rounded so that `lo` is all that is left.
+#[tactic(auto, unfolding(sloth_base::specs::Arithmetic::hi))]
+pub fn hi(value: u32) -> u32
+    ensures is { result ≡ hi value }
+    ensures fits { result < 2 ^ 20 }
+{
+    ((value as u64 + 0x800) / 0x1000 % 0x10_0000) as u32
+}
+
+/// What is left of a constant behind `hi`.
+#[tactic(auto, unfolding(sloth_base::specs::Arithmetic::lo))]
+pub fn lo(value: u32) -> i32
+    ensures is { result ≡ lo value }
+    ensures fits { IsSigned 12 result }
+{
+    signed(value % 0x1000, 12)
 }

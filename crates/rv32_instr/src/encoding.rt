@@ -1,14 +1,15 @@
 //! From an instruction to its word.
 //! The opcodes of the RISC-V unprivileged manual, and the words of the instructions without fields.
+//! What an instruction asks of the machine. Why the machine stops.
 ghost use Rattle.std.specs.Prelude.{◌≡◌, ◌<◌, ◌^◌, Some};
 ghost use Rattle.rv32_instr.specs.Range.{InRange};
 ghost use Rattle.rv32_instr.specs.Words.{word, upper_word, r_word, i_word, s_word, b_word, j_word};
 ghost use Rattle.rv32_instr.specs.Encode.{Encode};
 ghost use Rattle.rv32_instr.specs.Table.{Decode};
 
-use crate::fields::part;
+use crate::decoding::part;
 use crate::{Instr, InstrKind};
-use sloth_base::Reg;
+use sloth_base::{Reg, Width};
 
 /// The word of its bits 31 to 20, rs1, funct3, rd and the opcode.
 #[tactic(auto, using(crate::proofs::Joins::or_word), unfolding(crate::specs::Words::word))]
@@ -174,3 +175,79 @@ pub const ECALL: u32 = 0x0000_0073;
 pub const EBREAK: u32 = 0x0010_0073;
 
 pub const MRET: u32 = 0x3020_0073;
+
+/// What happens to a CSR.
+#[derive(Clone, Copy)]
+pub enum Change {
+    /// It isn't written.
+    Keep,
+    /// It becomes this value.
+    Replace(u32),
+    /// These bits are set.
+    Set(u32),
+    /// These bits are cleared.
+    Clear(u32),
+}
+
+/// What an instruction does, its registers read.
+#[derive(Clone, Copy)]
+pub enum Effect {
+    Nothing,
+    /// A value for a register.
+    Write {
+        rd: Reg,
+        value: u32,
+    },
+    /// On at the target, where the branch is taken.
+    Branch {
+        taken: bool,
+        target: u32,
+    },
+    /// On at the target, with the address of the next instruction in a register.
+    Jump {
+        rd: Reg,
+        target: u32,
+    },
+    Load {
+        width: Width,
+        rd: Reg,
+        address: u32,
+    },
+    Store {
+        width: Width,
+        address: u32,
+        value: u32,
+    },
+    /// The CSR's old value for a register, and the change of the CSR.
+    Csr {
+        rd: Reg,
+        csr: u16,
+        change: Change,
+    },
+    /// ECALL or EBREAK.
+    Environment,
+    /// MRET.
+    Return,
+}
+
+/// Why an instruction isn't executed.
+#[derive(Clone, Copy)]
+pub enum Stop {
+    /// pc isn't in RAM: its value.
+    Fetch(u32),
+    /// No instruction has this word, or it names a CSR that isn't there: the word.
+    Illegal(u32),
+    /// ECALL or EBREAK.
+    Environment,
+    /// An access off its multiple, or a taken jump off a multiple of 4: the address.
+    Misaligned(u32),
+    /// An access outside RAM and controller, or a half or word access to the controller: the address.
+    Access(u32),
+}
+
+/// Why memory refuses an access. `Misaligned` comes first.
+#[derive(Clone, Copy)]
+pub enum Bad {
+    Misaligned,
+    Access,
+}

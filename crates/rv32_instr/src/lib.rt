@@ -15,21 +15,17 @@ pub mod asm;
 pub mod block;
 pub mod csr;
 pub mod decoding;
-pub mod effect;
 pub mod encoding;
-pub mod fields;
 
 pub use asm::{
-    A0, A1, X1, X2, X3, X4, X30, X31, ZERO, add, addi, and, andi, auipc, beq, bge, bgeu, blt, bltu,
-    bne, csrrci, csrrs, csrrw, csrrwi, jal, jalr, lbu, load, lui, lw, mret, or, ori, sb, sll, slli,
-    slt, slti, sltiu, sltu, sra, srai, srl, srli, store, sub, sw, xor, xori,
+    A0, A1, X1, X2, X3, X4, X30, X31, ZERO, add, addi, and, andi, auipc, beq, bgeu, bltu, bne,
+    csrrci, csrrs, csrrw, csrrwi, jal, jalr, lbu, load, lui, lw, mret, or, sb, slli, sltu, srai,
+    srli, store, sub, sw, xor, xori,
 };
 pub use block::Block;
 pub use csr::{ILEVEL, MEPC, MIE, MPIE, MSCRATCH, MSTATUS, PLEVEL};
-pub use decoding::decode;
-pub use effect::{Bad, Change, Effect, Stop};
-pub use encoding::encode;
-pub use fields::{hi, lo};
+pub use decoding::{decode, hi, lo};
+pub use encoding::{Bad, Change, Effect, Stop, encode};
 
 /// One instruction: its mnemonic and its fields. `specs/Range.antt` has the ranges of the fields.
 #[derive(Clone, Copy)]

@@ -4,15 +4,15 @@ use Rattle.std.proofs.lemmas.Bool.Decides.{nat_tests}
 use Rattle.sloth_base.specs.Machine.{State}
 use Rattle.sloth_base.specs.declared.app.Width.TheVariants as width
 use Rattle.sloth_base.specs.MemoryMap.{memory_base}
-use Rattle.rv32_instr.specs.declared.effect.Bad.{Bad}
-use Rattle.rv32_instr.specs.declared.effect.Stop.TheVariants as stop
+use Rattle.rv32_instr.specs.declared.encoding.Bad.{Bad}
+use Rattle.rv32_instr.specs.declared.encoding.Stop.TheVariants as stop
 use Rattle.rv32_instr.specs.declared.InstrKind.{InstrKind}
 use Rattle.rv32_instr.specs.Encode.{Encode}
 use Rattle.rv32_instr.specs.Table.{Decode}
 use Rattle.rv32_instr.specs.Ram.{word_at}
 use Rattle.rv32_instr.specs.Memory.{Memory, in_ram, refusal, loaded_number}
 use Rattle.rv32_instr.specs.Effect.{effect}
-use Rattle.rv32_instr.specs.declared.effect.Effect.{Effect}
+use Rattle.rv32_instr.specs.declared.encoding.Effect.{Effect}
 use Rattle.rv32_instr.specs.Execute.{Next, Stopped, execute, perform, step, touched, touched_line_by, word_at_pc}
 
 -- an aligned word may be loaded exactly where it is in RAM

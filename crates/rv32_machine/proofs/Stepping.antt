@@ -2,7 +2,7 @@
 use Rattle.std.proofs.Common.{◌≡◌, ℕ, ap, sym, ◌∙◌, Option}
 use Rattle.sloth_base.specs.Machine.{State}
 use Rattle.sloth_base.specs.Take.{entry_state, execution_state, line_to_take}
-use Rattle.rv32_instr.specs.declared.effect.Stop.{Stop}
+use Rattle.rv32_instr.specs.declared.encoding.Stop.{Stop}
 use Rattle.rv32_instr.specs.Ram.{word_at}
 use Rattle.rv32_instr.specs.Execute.{Going, Stopped, step, touched}
 use Rattle.rv32_machine.specs.Advance.{Goes, Halts, observed_step, outcome, advance}

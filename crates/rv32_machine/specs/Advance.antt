@@ -3,7 +3,7 @@ use Rattle.std.specs.Prelude.{ℕ, None, false, replicate}
 use Rattle.sloth_base.specs.declared.numbers.Step.{Step}
 use Rattle.sloth_base.specs.Machine.{State}
 use Rattle.sloth_base.specs.Take.{line_to_take, execution_state}
-use Rattle.rv32_instr.specs.declared.effect.Stop.{Stop}
+use Rattle.rv32_instr.specs.declared.encoding.Stop.{Stop}
 use Rattle.rv32_machine.specs.declared.step.StepFront.{StepFront}
 use Rattle.rv32_instr.specs.Ram.{word_at}
 use Rattle.rv32_instr.specs.Execute.{Next, Going, Stopped, step, touched}

@@ -1,7 +1,7 @@
 -- An effect names registers that are there.
 use Rattle.std.specs.Prelude.{◌<◌}
-use Rattle.rv32_instr.specs.declared.effect.Effect.{Effect}
-use Rattle.rv32_instr.specs.declared.effect.Effect.TheVariants.{Nothing, Write, Branch, Jump, Load, Store, Csr, Environment, Return}
+use Rattle.rv32_instr.specs.declared.encoding.Effect.{Effect}
+use Rattle.rv32_instr.specs.declared.encoding.Effect.TheVariants.{Nothing, Write, Branch, Jump, Load, Store, Csr, Environment, Return}
 
 -- the register that an effect writes is one of the 32
 abbrev pub HasRegisterInRange : Effect → Type 0

@@ -1,15 +1,19 @@
-//! What each instruction does.
-ghost use Rattle.std.specs.Prelude.{◌≡◌, ◌<◌, ◌-◌, ◌%◌, slice_index, if◌then◌else◌, ◌==◌};
+//! What each instruction does. A bus of RAM alone.
+ghost use Rattle.std.specs.Prelude.{◌≡◌, ◌<◌, ◌-◌, ◌%◌, slice_index, if◌then◌else◌, ◌==◌, IfOk};
 ghost use Rattle.std.specs.Int.{w32, cast_signed};
 ghost use Rattle.rv32_instr.specs.Range.{InRange};
 ghost use Rattle.rv32_instr.specs.Effect.{effect};
 ghost use Rattle.sloth_base.specs.Arithmetic.{plus};
-ghost use Rattle.rv32_instr.specs.declared.effect.Effect.TheVariants as asks;
-ghost use Rattle.rv32_instr.specs.declared.effect.Change.TheVariants as change;
+ghost use Rattle.rv32_instr.specs.declared.encoding.Effect.TheVariants as asks;
+ghost use Rattle.rv32_instr.specs.declared.encoding.Change.TheVariants as change;
 ghost use Rattle.rv32_machine.specs.RegisterRange.{HasRegisterInRange};
+ghost use Rattle.sloth_base.specs.ImageRange.{InFormat};
+ghost use Rattle.rv32_machine.specs.Start.{flat_start};
 
-use rv32_instr::{Change, Effect, InstrKind};
-use sloth_base::{Reg, Width};
+use machine_memory::{Bus, Place, Ram, extended, locate};
+use rv32_instr::{Bad, Change, Effect, Instr, InstrKind, decode};
+use sloth_base::{Image, Line, Reg, Result, Width};
+use std::alloc::Global;
 
 /// What the instruction at `pc` does, with the registers `x`.
 #[inline(always)]
@@ -77,24 +81,12 @@ fn asked(kind: InstrKind, pc: u32, x: &[u32; 32]) -> Effect
         InstrKind::Or { rd, rs1, rs2 } => write(rd, at(x, rs1) | at(x, rs2)),
         InstrKind::And { rd, rs1, rs2 } => write(rd, at(x, rs1) & at(x, rs2)),
         InstrKind::Fence { .. } => Effect::Nothing,
-        InstrKind::Csrrw { rd, rs1, csr } => csr_effect(rd, csr, Change::Replace(at(x, rs1))),
-        InstrKind::Csrrs { rd, rs1, csr } => csr_effect(rd, csr, set(rs1.0, at(x, rs1))),
-        InstrKind::Csrrc { rd, rs1, csr } => csr_effect(rd, csr, clear(rs1.0, at(x, rs1))),
-        InstrKind::Csrrwi { rd, number, csr } => csr_effect(
-            rd,
-            csr,
-            Change::Replace(u32::from(number)),
-        ),
-        InstrKind::Csrrsi { rd, number, csr } => csr_effect(
-            rd,
-            csr,
-            set(number, u32::from(number)),
-        ),
-        InstrKind::Csrrci { rd, number, csr } => csr_effect(
-            rd,
-            csr,
-            clear(number, u32::from(number)),
-        ),
+        InstrKind::Csrrw { rd, rs1, csr } => on_csr(rd, csr, Change::Replace(at(x, rs1))),
+        InstrKind::Csrrs { rd, rs1, csr } => on_csr(rd, csr, set(rs1.0, at(x, rs1))),
+        InstrKind::Csrrc { rd, rs1, csr } => on_csr(rd, csr, clear(rs1.0, at(x, rs1))),
+        InstrKind::Csrrwi { rd, number, csr } => on_csr(rd, csr, Change::Replace(number as u32)),
+        InstrKind::Csrrsi { rd, number, csr } => on_csr(rd, csr, set(number, number as u32)),
+        InstrKind::Csrrci { rd, number, csr } => on_csr(rd, csr, clear(number, number as u32)),
         InstrKind::Ecall | InstrKind::Ebreak => Effect::Environment,
         InstrKind::Mret => Effect::Return,
     }
@@ -129,10 +121,8 @@ fn even(address: u32) -> u32
 fn branch(taken: bool, pc: u32, imm: i32) -> Effect
     ensures { result ≡ asks.Branch taken (plus pc imm) }
 {
-    Effect::Branch {
-        taken,
-        target: plus(pc, imm),
-    }
+    let target = plus(pc, imm);
+    Effect::Branch { taken, target }
 }
 
 #[inline(always)]
@@ -145,11 +135,8 @@ fn write(rd: Reg, value: u32) -> Effect
 fn load(width: Width, rd: Reg, base: u32, imm: i32) -> Effect
     ensures { result ≡ asks.Load width rd (plus base imm) }
 {
-    Effect::Load {
-        width,
-        rd,
-        address: plus(base, imm),
-    }
+    let address = plus(base, imm);
+    Effect::Load { width, rd, address }
 }
 
 fn store(width: Width, base: u32, imm: i32, value: u32) -> Effect
@@ -184,8 +171,65 @@ fn clear(field: u8, bits: u32) -> Change
 }
 
 #[inline(always)]
-fn csr_effect(rd: Reg, csr: u16, change: Change) -> Effect
+fn on_csr(rd: Reg, csr: u16, change: Change) -> Effect
     ensures { result ≡ asks.Csr rd csr change }
 {
     Effect::Csr { rd, csr, change }
+}
+
+/// RAM without a controller.
+#[derive(Drop)]
+pub struct FlatBus {
+    ram: Ram,
+}
+
+impl FlatBus {
+    ghost use Rattle.rv32_machine.specs.Flat.{flat_memory};
+
+    /// RAM that begins with the image's memory; the rest is zero.
+    pub fn new(alloc: Global, image: &Image) -> Result<FlatBus>
+        requires { InFormat image.now }
+        ensures { IfOk result (λ bus. flat_memory bus ≡ flat_start image.now) }
+    {
+        let ram = Ram::new(alloc, image.memory.items())?;
+        Ok(FlatBus { ram })
+    }
+}
+
+impl Bus for FlatBus {
+    ghost use Rattle.rv32_machine.specs.Flat.{flat_memory};
+
+    ghost memory = { flat_memory };
+
+    #[tactic(auto, using(machine_memory::proofs::Places::refusal_bare, machine_memory::proofs::Places::loaded_ram))]
+    fn load(&mut self, address: u32, width: Width) -> Result<u32, Bad> {
+        match locate(address, width, false) {
+            Ok(Place::Ram(offset)) => Ok(extended(width, self.ram.load(offset, width))),
+            Ok(Place::Controller(_)) => unreachable!(),
+            Err(bad) => Err(bad),
+        }
+    }
+
+    #[tactic(auto, using(machine_memory::proofs::Places::refusal_bare, machine_memory::proofs::Places::stored_ram))]
+    fn store(&mut self, address: u32, width: Width, value: u32) -> Result<(), Bad> {
+        match locate(address, width, false) {
+            Ok(Place::Ram(offset)) => self.ram.store(offset, width, value),
+            Ok(Place::Controller(_)) => unreachable!(),
+            Err(bad) => return Err(bad),
+        }
+        Ok(())
+    }
+
+    fn fetch(&mut self, address: u32) -> Result<Option<Instr>, Bad> {
+        match self.load(address, Width::Word) {
+            Ok(word) => Ok(decode(word)),
+            Err(bad) => Err(bad),
+        }
+    }
+
+    fn choose(&self, _level: u8) -> Option<Line> {
+        None
+    }
+
+    fn take(&mut self, _line: Line) {}
 }

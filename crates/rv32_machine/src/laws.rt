@@ -5,7 +5,7 @@ ghost use Rattle.sloth_base.specs.declared.numbers.Step.{Step};
 ghost use Rattle.sloth_base.specs.Machine.{State};
 ghost use Rattle.sloth_base.specs.Lines.{Lines};
 ghost use Rattle.sloth_base.specs.Choose.{IsChosen};
-ghost use Rattle.rv32_instr.specs.declared.effect.Stop.{Stop};
+ghost use Rattle.rv32_instr.specs.declared.encoding.Stop.{Stop};
 ghost use Rattle.rv32_machine.specs.Advance.{Goes, Halts};
 ghost use Rattle.rv32_machine.specs.Run.{state_with_arrivals, moment, moment_of, run, steps_of, state_after, stop_of};
 ghost use Rattle.rv32_machine.specs.Run.{stopping};

@@ -9,12 +9,11 @@
 #![tactic(auto)]
 
 pub mod effect;
-pub mod flat;
 pub mod laws;
 mod machine;
 mod step;
 
-pub use flat::FlatBus;
+pub use effect::FlatBus;
 pub use machine::Machine;
 pub use machine_memory::{Bus, SlothBus};
 pub use rv32_instr::{Bad, Stop};

@@ -8,7 +8,7 @@ ghost use Rattle.rv32_instr.specs.Memory.{in_ram};
 ghost use Rattle.rv32_instr.specs.Ram.{word_at};
 ghost use Rattle.rv32_instr.specs.Table.{Decode};
 ghost use Rattle.rv32_instr.specs.Execute.{Going, Stopped, step, touched, touched_line_by, pending_line, word_at_pc};
-ghost use Rattle.rv32_instr.specs.declared.effect.Stop.TheVariants as stop;
+ghost use Rattle.rv32_instr.specs.declared.encoding.Stop.TheVariants as stop;
 ghost use Rattle.rv32_machine.specs.Advance.{advance, blank_step, step_of, Goes, Halts};
 
 use crate::Machine;

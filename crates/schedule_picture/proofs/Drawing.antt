@@ -4,7 +4,7 @@ use Rattle.std.specs.Prelude.{max, cond, codes}
 use Rattle.std.specs.List.{flat_map}
 use Rattle.std.proofs.Math.Numerals.{add-one}
 use Rattle.lane_drawing.specs.Drawing.{is_above, head_lines, axis_lines, lane_line, bar_line, row_middle, legend_lines}
-use Rattle.lane_drawing.specs.declared.bars.Bar.{Bar}
+use Rattle.lane_drawing.specs.declared.drawing.Bar.{Bar}
 use Rattle.schedule_picture.specs.Picture.{Drawing, longest_length, tasks_above, task_lane, task_lanes, counter_lane, counter_lanes, mark_lines, picture_text}
 
 pub no_names : (names : List (List ℕ)) → longest_length names 0 ≡ 6

@@ -10,7 +10,7 @@ use Rattle.run_samples.specs.declared.samples.Sample.{Sample}
 use Rattle.run_samples.specs.Admissions.{run_admissions}
 use Rattle.run_samples.specs.Samples.{AreSampledLevels}
 use Rattle.run_samples.proofs.OneSample.{one-samples}
-use Rattle.lane_drawing.specs.declared.bars.Bar.{Bar}
+use Rattle.lane_drawing.specs.declared.drawing.Bar.{Bar}
 use Rattle.lane_drawing.specs.declared.scale.Scale.{Scale}
 use Rattle.lane_drawing.specs.Bars.{AreBars}
 use Rattle.std.specs.Prelude.{codes}

@@ -27,8 +27,8 @@ use Rattle.schedule_picture.specs.Marks.{Watch, no_watch, watched, run_marks}
 use Rattle.schedule_picture.specs.declared.marks.Mark.{Mark}
 use Rattle.schedule_picture.proofs.Watched.{watch_none, watch_more, addresses_counted}
 use Rattle.run_samples.proofs.OneSample.{samples-more}
-use Rattle.lane_drawing.specs.declared.bars.Bar.{Bar}
-use Rattle.lane_drawing.specs.declared.bars.Look.{Look}
+use Rattle.lane_drawing.specs.declared.drawing.Bar.{Bar}
+use Rattle.lane_drawing.specs.declared.drawing.Look.{Look}
 use Rattle.lane_drawing.specs.declared.scale.Scale.{Scale}
 use Rattle.lane_drawing.specs.Bars.{AreBars, IsBarInside}
 use Rattle.lane_drawing.specs.Strips.{Lane, IsStrip, IsFreshStrip, ShowsMore, empty_lane, last_bar}

@@ -7,9 +7,9 @@ use Rattle.sloth_base.specs.declared.image.MarkKind.{MarkKind}
 use Rattle.sloth_base.specs.declared.image.MarkKind.TheVariants as kind
 use Rattle.trace_text.specs.MarkWords.{mark_text}
 use Rattle.trace_text.specs.Listing.{mark_on}
-use Rattle.lane_drawing.specs.declared.bars.Bar.{Bar}
-use Rattle.lane_drawing.specs.declared.bars.Look.{Look}
-use Rattle.lane_drawing.specs.declared.bars.Look.TheVariants as look
+use Rattle.lane_drawing.specs.declared.drawing.Bar.{Bar}
+use Rattle.lane_drawing.specs.declared.drawing.Look.{Look}
+use Rattle.lane_drawing.specs.declared.drawing.Look.TheVariants as look
 
 -- the instruction of a mark completes an item, or jumps to its service
 abbrev pub is_item : MarkKind → Bool

@@ -7,8 +7,8 @@ use Rattle.osek_scheduler.specs.declared.state.TaskState.TheVariants as mode
 use Rattle.sloth_runner.specs.declared.task_states.Seen.{Seen}
 use Rattle.run_samples.specs.declared.samples.Sample.{Sample}
 use Rattle.run_samples.specs.Samples.{no_sample}
-use Rattle.lane_drawing.specs.declared.bars.Look.{Look}
-use Rattle.lane_drawing.specs.declared.bars.Look.TheVariants as look
+use Rattle.lane_drawing.specs.declared.drawing.Look.{Look}
+use Rattle.lane_drawing.specs.declared.drawing.Look.TheVariants as look
 use Rattle.lane_drawing.specs.TaskLooks.{task_look}
 
 -- generated kernel code is executed: interrupts are masked before the count's instruction, or a line is taken before it

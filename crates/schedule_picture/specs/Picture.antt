@@ -7,7 +7,7 @@ use Rattle.sloth_runner.specs.declared.runner.RunEnd.TheVariants as ends
 use Rattle.sloth_runner.specs.Runner.{run_end}
 use Rattle.run_samples.specs.declared.samples.Sample.{Sample}
 use Rattle.run_samples.specs.Samples.{AreSampledLevels, AreSamples}
-use Rattle.lane_drawing.specs.declared.bars.Bar.{Bar}
+use Rattle.lane_drawing.specs.declared.drawing.Bar.{Bar}
 use Rattle.schedule_picture.specs.declared.picture.Picture.{Picture}
 use Rattle.schedule_picture.specs.declared.picture.Picture.TheVariants as picture
 use Rattle.lane_drawing.specs.Bars.{AreBars}

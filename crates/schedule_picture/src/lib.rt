@@ -7,10 +7,7 @@
 //! once (`arrivals_are_told_once`). Samples: `run_samples`; bars and lines: `lane_drawing`.
 #![tactic(auto)]
 
-mod items;
-mod lanes;
 pub mod laws;
-mod mark_lines;
 pub mod marks;
 mod picture;
 mod text;

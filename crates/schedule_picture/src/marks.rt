@@ -1,17 +1,23 @@
 //! What of a run is marked between its counts.
-ghost use Rattle.std.specs.Prelude.{◌≡◌, ◌<◌, ◌++◌, OnOk, [], ◌∷◌, cond};
+//! The items that a task completes or calls a service for, at the counts of a bar.
+ghost use Rattle.std.specs.Prelude.{◌≡◌, ◌<◌, ◌++◌, OnOk, [], ◌∷◌, cond, ◌≤◌, ◌+◌, ◌-◌, get_or, length};
 ghost use Rattle.std.specs.List.{list_any};
 ghost use Rattle.sloth_base.specs.Limits.{task_limit, alarm_limit};
-ghost use Rattle.schedule_picture.specs.Marks.{comes_between, is_task_activated, acting, task_marks};
-ghost use Rattle.schedule_picture.specs.Marks.{tasks_marks, ticking, expiries};
-ghost use Rattle.schedule_picture.specs.Marks.{marks_at, no_watch, watched};
+ghost use Rattle.schedule_picture.specs.Marks.{comes_between, is_task_activated, acting, task_marks, tasks_marks, ticking, expiries, marks_at, no_watch, watched};
+ghost use Rattle.sloth_base.specs.ImageRange.{InFormat, AreAscending};
+ghost use Rattle.lane_drawing.specs.Bars.{IsBarInside};
+ghost use Rattle.trace_text.specs.Listing.{mark_on};
+ghost use Rattle.schedule_picture.specs.Items.{is_item, item_mark, address_item, first_item, last_item, item_words, items_words, bar_words};
 
-use lane_drawing::{is_activated, is_over, is_woken};
+use lane_drawing::{Bar, Look, Scale, is_activated, is_over, is_woken};
 use run_samples::Sample;
-use sloth_base::{ALARM_LIMIT, Arrival, FIRST_COUNTER_LINE, Line, NoMemory, Result, TASK_LIMIT};
+use sloth_base::{
+    ALARM_LIMIT, Arrival, FIRST_COUNTER_LINE, Image, Line, MarkKind, NoMemory, Result, TASK_LIMIT,
+};
 use sloth_runner::task_states::Seen;
 use std::alloc::Global;
 use std::marker::Model;
+use trace_text::{LineText, push_mark};
 
 /// Who acts: a task, or a counter as it ticks, by its number.
 #[derive(Clone, Copy)]
@@ -262,5 +268,112 @@ impl<'a> Watching<'a> {
         ensures { result.now ≡ self.now.addresses }
     {
         self.addresses.as_slice()
+    }
+}
+
+fn is_item(kind: MarkKind) -> bool
+    ensures { result ≡ is_item kind }
+{
+    matches!(kind, MarkKind::Item | MarkKind::Jump)
+}
+
+fn found_mark(marks: &[sloth_base::Mark], address: u32) -> Option<sloth_base::Mark>
+    requires { AreAscending marks.now }
+    ensures { result ≡ mark_on marks.now address }
+{
+    match marks.binary_search_by_key(&address, |mark| mark.address) {
+        Ok(place) => Some(marks[place]),
+        Err(_) => None,
+    }
+}
+
+fn item_mark(mark: Option<sloth_base::Mark>) -> Option<sloth_base::Mark>
+    ensures { result ≡ item_mark mark }
+{
+    match mark {
+        None => None,
+        Some(mark) => { if is_item(mark.kind) { Some(mark) } else { None } }
+    }
+}
+
+fn count_item(image: &Image, addresses: &[u32], place: usize) -> Option<sloth_base::Mark>
+    requires format { InFormat image.now }
+    requires within { place < length addresses.now }
+    ensures { result ≡ address_item image.now (get_or addresses.now place 0) }
+{
+    item_mark(found_mark(image.marks.items(), addresses[place]))
+}
+
+// The first one at the counts from one to below another.
+fn first_item(image: &Image, addresses: &[u32], from: usize, to: usize) -> Option<sloth_base::Mark>
+    requires format { InFormat image.now }
+    requires ordered { from ≤ to }
+    requires within { to ≤ length addresses.now }
+    ensures { result ≡ first_item image.now addresses.now from (to - from) }
+{
+    for place in from..to {
+        if let Some(mark) = count_item(image, addresses, place) {
+            return Some(mark);
+        }
+    }
+    None
+}
+
+fn last_item(image: &Image, addresses: &[u32], from: usize, to: usize) -> Option<sloth_base::Mark>
+    requires format { InFormat image.now }
+    requires ordered { from ≤ to }
+    requires within { to ≤ length addresses.now }
+    ensures { result ≡ last_item image.now addresses.now from (to - from) }
+{
+    for behind in 0..to - from {
+        if let Some(mark) = count_item(image, addresses, to - 1 - behind) {
+            return Some(mark);
+        }
+    }
+    None
+}
+
+// Appends what the listing says of a mark, if there is one, behind these bytes.
+fn push_item(line: &mut LineText, image: &Image, front: &[u8], mark: &Option<sloth_base::Mark>)
+    requires format { InFormat image.now }
+    requires room { length line.old ≤ 100 }
+    requires few { length front.now ≤ 3 }
+    ensures words { line.new ≡ line.old ++ item_words front.now image.now.funcs mark.now }
+    ensures short { length line.new ≤ length line.old + 87 }
+{
+    if let Some(mark) = mark {
+        line.push(front);
+        push_mark(line, image.funcs.items(), mark);
+    }
+}
+
+// Both.
+#[tactic(auto, unfolding(crate::specs::Items::items_words))]
+fn items_words(image: &Image, addresses: &[u32], from: usize, to: usize) -> LineText
+    requires format { InFormat image.now }
+    requires ordered { from ≤ to }
+    requires within { to ≤ length addresses.now }
+    ensures { result ≡ items_words image.now addresses.now from to }
+{
+    let first = first_item(image, addresses, from, to);
+    let last = last_item(image, addresses, from, to);
+    let mut line = LineText::new();
+    push_item(&mut line, image, b",", &first);
+    push_item(&mut line, image, b" to", &last);
+    line
+}
+
+/// The words of a bar of a picture, where these are the addresses of its counts.
+pub fn bar_words(image: &Image, addresses: &[u32], scale: Scale, bar: Bar) -> LineText
+    requires format { InFormat image.now }
+    requires counted { scale.to ≡ scale.from + length addresses.now }
+    requires inside { IsBarInside scale.from scale.to bar }
+    ensures { result ≡ bar_words image.now addresses.now scale.from bar }
+{
+    if matches!(bar.look, Look::Runs) {
+        let (from, to) = (bar.from - scale.from, bar.to - scale.from);
+        items_words(image, addresses, from as usize, to as usize)
+    } else {
+        LineText::new()
     }
 }

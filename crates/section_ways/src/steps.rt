@@ -21,15 +21,8 @@ use walk_sums::{Point, Standing, is_next_item};
 pub fn point_op(app: &App, point: Point) -> Option<Op>
     ensures { IfSome result (λ o. IsItem app.now point.func point.item o) }
 {
-    let funcs = app.funcs.items();
-    if funcs.len() <= point.func {
-        return None;
-    }
-    let items = funcs[point.func].items.items();
-    if items.len() <= point.item {
-        return None;
-    }
-    Some(items[point.item].op)
+    let items = app.funcs.items().get(point.func)?.items.items();
+    Some(items.get(point.item)?.op)
 }
 
 // Whether this label stands in front of an item.
@@ -50,7 +43,7 @@ fn jumps(func: &Func, from: usize, to: usize) -> bool
     }
 }
 
-// Whether a path goes on from an item to another one, and a walk with it.
+// Whether a walk goes on from an item to another one.
 fn continues(func: &Func, from: usize, to: usize) -> bool
     requires { from < length func.now.items }
     ensures path { result ≡ true → IsPathStep func.now from to }
@@ -98,20 +91,13 @@ impl Trial<'_> {
         at.raised || self.walks.config().tasks.items()[self.above].priority <= ceiling
     }
 
-    // Into a call.
-    fn enter(
-        &self,
-        stack: &mut Vec<Standing>,
-        at: Standing,
-        called: usize,
-        to: Point,
-    ) -> Result<bool>
-        requires item { IsItem self.now.app at.point.func at.point.item (op_is.Invoke called) }
+    fn enter(&self, stack: &mut Vec<Standing>, at: Standing, func: usize, to: Point) -> Result<bool>
+        requires item { IsItem self.now.app at.point.func at.point.item (op_is.Invoke func) }
         requires told { IsToldStack self.now stack.old.items }
         requires raised { at.raised ≡ is_raised_position self.now (position_of stack.old.items) }
         ensures { IfOk result (Advances self.now (place_of at.point ∷ position_of stack.old.items) stack.new.items to) }
     {
-        if !is_entry(called, to) {
+        if !is_entry(func, to) {
             return Ok(false);
         }
         let raised = self.is_raised(at);
@@ -120,7 +106,6 @@ impl Trial<'_> {
         Ok(true)
     }
 
-    // Back to behind the call.
     fn leave(&self, stack: &mut Vec<Standing>, at: Standing, to: Point) -> Result<bool>
         requires item { IsItem self.now.app at.point.func at.point.item op_is.Return }
         requires told { IsToldStack self.now stack.old.items }
@@ -137,7 +122,6 @@ impl Trial<'_> {
         Ok(true)
     }
 
-    // On inside the function.
     fn stay(&self, stack: &mut Vec<Standing>, at: Standing, op: Op, to: Point) -> Result<bool>
         requires item { IsItem self.now.app at.point.func at.point.item op }
         requires plain { is_plain op ≡ true }

@@ -15,7 +15,6 @@ use sloth_base::{App, Op, Result, Service};
 use text_pieces::push;
 use walk_sums::{Point, Standing, is_same};
 
-// Whether an item calls this function.
 fn is_call(app: &App, from: Point, func: usize) -> bool
     ensures { result ≡ true → IsItem app.now from.func from.item (op_is.Invoke func) }
 {
@@ -38,14 +37,10 @@ pub fn counts(op: Op) -> bool
     }
 }
 
-// Whether it is there, and no Schedule.
 fn is_calm(app: &App, point: Point) -> bool
     ensures { result ≡ true → is_schedule (operation app.now point.func point.item) ≡ false }
 {
-    match point_op(app, point) {
-        Some(op) => !is_schedule(op),
-        None => false,
-    }
+    point_op(app, point).is_some_and(|op| !is_schedule(op))
 }
 
 // Whether a function in progress stands at the point, which counts.

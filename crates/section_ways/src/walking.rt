@@ -1,9 +1,8 @@
-//! Where a greatest section of a task begins, and from position to position along parts of greatest or least size.
-//! Functions in progress, as a search goes through them.
+//! Where a greatest section of a task begins, and from position to position along parts of greatest or least size; and
+//! cycles within sections.
 
-use crate::place::Nexts;
-use crate::sizes::{both, is_better};
-use crate::tables::Tables;
+use crate::place::{Nexts, both, is_better};
+use crate::ways::Tables;
 use sloth_base::{Op, Result};
 use std::alloc::Global;
 use text_pieces::push;
@@ -42,14 +41,13 @@ fn further_size(tables: &Tables, frame: Frame, item: Option<usize>) -> u32 {
 
 // Where a part goes on, if it does.
 fn choice(tables: &Tables, frame: Frame, nexts: Nexts) -> Option<usize> {
-    let lower = further_size(tables, frame, nexts.lower);
-    let higher = further_size(tables, frame, nexts.higher);
-    let (item, size) = if is_better(frame.mode, lower, higher) {
-        (nexts.higher, higher)
-    } else {
-        (nexts.lower, lower)
-    };
-    if 0 < size { item } else { None }
+    let lower = further_size(tables, frame, nexts.0);
+    let higher = further_size(tables, frame, nexts.1);
+    match is_better(frame.mode, lower, higher) {
+        true if 0 < higher => nexts.1,
+        false if 0 < lower => nexts.0,
+        _ => None,
+    }
 }
 
 // Back to the caller, if a part goes on behind the call.
@@ -82,7 +80,7 @@ fn step(tables: &Tables, frames: &mut Vec<Frame>) -> Result<bool> {
         Op::Invoke { func } => {
             let func = func.0 as usize;
             let inner = tables.size(func, true, 0);
-            let further = further_size(tables, frame, nexts.lower);
+            let further = further_size(tables, frame, nexts.0);
             let mode = match frame.mode {
                 Mode::On if inner.on < both(inner.back, further) => Mode::Back,
                 mode => mode,
@@ -144,5 +142,93 @@ pub fn frame_points(alloc: Global, frames: &[Frame]) -> Result<Vec<Point>> {
     for frame in frames {
         push(&mut points, frame.point)?;
     }
+    Ok(points)
+}
+
+/// The most points of a cycle that is given.
+pub const LONGEST: usize = 1_000_000;
+
+// A function that was reached, at its first item, and which one before calls it at which item, if it is not the first.
+#[derive(Clone, Copy)]
+struct Reached {
+    at: Frame,
+    before: Option<(usize, usize)>,
+}
+
+fn least_frame(func: usize, item: usize, whole: bool) -> Frame {
+    let point = Point { func, item };
+    let mode = Mode::Least;
+    Frame { point, whole, mode }
+}
+
+// Reaches what the items of a function call.
+fn reach_all(tables: &Tables, reached: &mut Vec<Reached>, turn: usize, from: Frame) -> Result<()> {
+    let Some(place) = tables.place(from.point.func, from.whole) else {
+        return Ok(());
+    };
+    for item in 0..place.func.items.items().len() {
+        if let Some((func, whole)) = place.call(item) {
+            let mut known = reached.as_slice().iter();
+            if !known.any(|one| one.at.point.func == func && one.at.whole == whole) {
+                let at = least_frame(func, 0, whole);
+                let before = Some((turn, item));
+                push(reached, Reached { at, before })?;
+            }
+        }
+    }
+    Ok(())
+}
+
+// The functions in progress at an item of one that was reached: it, and the calls that lead to it; the outermost first.
+fn reached_frames(alloc: Global, all: &[Reached], turn: usize, item: usize) -> Result<Vec<Frame>> {
+    let mut frames = Vec::new(alloc);
+    let mut next = Some((turn, item));
+    for _turn in 0..all.len() {
+        if let Some((turn, item)) = next {
+            if turn < all.len() {
+                let mut at = all[turn].at;
+                at.point.item = item;
+                push(&mut frames, at)?;
+                next = all[turn].before;
+            }
+        }
+    }
+    frames.reverse();
+    Ok(frames)
+}
+
+/// The functions in progress at a cycle, the innermost at its first item.
+pub fn cycle_start(tables: &Tables, body: usize, whole: bool) -> Result<Vec<Frame>> {
+    let alloc = tables.walks.alloc();
+    let mut reached = Vec::new(alloc);
+    let (at, before) = (least_frame(body, 0, whole), None);
+    push(&mut reached, Reached { at, before })?;
+    for turn in 0..2 * tables.walks.app().funcs.items().len() + 1 {
+        if reached.len() <= turn {
+            return Ok(Vec::new(alloc));
+        }
+        let from = reached[turn].at;
+        if let Some(item) = tables.cycle(from.point.func, from.whole).first() {
+            return reached_frames(alloc, reached.as_slice(), turn, *item);
+        }
+        reach_all(tables, &mut reached, turn, from)?;
+    }
+    Ok(Vec::new(alloc))
+}
+
+/// The points of the positions of a cycle, its first item at both ends; through what it calls by the shortest way.
+pub fn cycle_points(tables: &Tables, at: Frame) -> Result<Vec<Point>> {
+    let alloc = tables.walks.alloc();
+    let mut points = Vec::new(alloc);
+    let func = at.point.func;
+    for item in tables.cycle(func, at.whole) {
+        push(&mut points, Point { func, item: *item })?;
+        if let Some((other, _raised)) = tables.call(func, at.whole, *item) {
+            let mut frames = Vec::new(alloc);
+            push(&mut frames, least_frame(other, 0, true))?;
+            push_points(tables, &mut points, &mut frames, LONGEST)?;
+        }
+    }
+    push(&mut points, at.point)?;
     Ok(points)
 }

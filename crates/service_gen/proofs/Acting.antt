@@ -20,7 +20,7 @@ use Rattle.sloth_base.specs.declared.config.Action.{Action}
 use Rattle.sloth_base.specs.declared.config.Action.TheVariants.{Activate, Set}
 use Rattle.sloth_base.specs.Limits.{task_limit, alarm_limit}
 use Rattle.code_lengths.specs.CodeLengths.{sets_events_of}
-use Rattle.service_gen.specs.declared.alarms.NumberedAlarm.{NumberedAlarm}
+use Rattle.service_gen.specs.declared.tick_code.NumberedAlarm.{NumberedAlarm}
 use Rattle.service_gen.specs.Alarms.{IsActionInRange, IsAlarmInRange, AreAlarmsInRange, is_target}
 use Rattle.block_parts.specs.Ticks.{awaited_events_test}
 use Rattle.service_gen.specs.AlarmPieces.{waking_code, basing_code, action_code, action_size, losing_code, alarm_code, alarms_code}

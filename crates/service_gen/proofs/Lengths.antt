@@ -5,7 +5,7 @@ use Rattle.sloth_base.specs.declared.config.Action.{Action}
 use Rattle.sloth_base.specs.declared.config.Action.TheVariants.{Activate, Set}
 use Rattle.sloth_base.specs.declared.config.AlarmDecl.{AlarmDecl}
 use Rattle.code_lengths.specs.CodeLengths.{sets_events_of, is_looked_at, action_length, alarms_length, tick_length}
-use Rattle.service_gen.specs.declared.alarms.NumberedAlarm.{NumberedAlarm}
+use Rattle.service_gen.specs.declared.tick_code.NumberedAlarm.{NumberedAlarm}
 use Rattle.service_gen.specs.Alarms.{alarms_from, is_target}
 use Rattle.block_parts.specs.Ticks.{look_code}
 use Rattle.service_gen.specs.AlarmPieces.{counting_code, look_clearing_code, look_of, looks_code, basing_code, action_code, action_size, losing_code, alarm_code, alarms_code, returning_code, tick_code}

@@ -18,7 +18,7 @@ use Rattle.block_parts.proofs.Busy.{bit_arrives}
 use Rattle.sloth_base.specs.declared.config.Action.{Action}
 use Rattle.sloth_base.specs.declared.config.Action.TheVariants.{Activate, Set}
 use Rattle.code_lengths.specs.CodeLengths.{sets_events_of}
-use Rattle.service_gen.specs.declared.alarms.NumberedAlarm.{NumberedAlarm}
+use Rattle.service_gen.specs.declared.tick_code.NumberedAlarm.{NumberedAlarm}
 use Rattle.service_gen.specs.Alarms.{is_target, targets, tasks_before_later}
 use Rattle.block_parts.specs.Ticks.{look_code}
 use Rattle.service_gen.specs.AlarmPieces.{look_of, looks_code}

@@ -11,7 +11,7 @@ use Rattle.sloth_base.specs.declared.config.Config.{Config}
 use Rattle.sloth_base.specs.ConfigRange.{InRange, IsAlarm, no_event}
 use Rattle.sloth_base.specs.ConfigRange as range
 use Rattle.sloth_base.specs.Limits.{alarm_limit}
-use Rattle.service_gen.specs.declared.alarms.NumberedAlarm.{NumberedAlarm}
+use Rattle.service_gen.specs.declared.tick_code.NumberedAlarm.{NumberedAlarm}
 use Rattle.service_gen.specs.Alarms.{IsActionInRange, AreAlarmsInRange, alarms_from, counter_alarms}
 
 module _ (config : Config) (fits : InRange config) where

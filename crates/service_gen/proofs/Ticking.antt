@@ -22,7 +22,7 @@ use Rattle.masked_code.proofs.Spread.{based, based_is, spread_from, others}
 use Rattle.masked_code.proofs.Routines.{jumps_in}
 use Rattle.masked_code.proofs.Words.{word_at-other}
 use Rattle.block_parts.proofs.Landing.{lands}
-use Rattle.service_gen.specs.declared.alarms.NumberedAlarm.{NumberedAlarm}
+use Rattle.service_gen.specs.declared.tick_code.NumberedAlarm.{NumberedAlarm}
 use Rattle.service_gen.specs.Alarms.{AreAlarmsInRange, is_target, targets}
 use Rattle.service_gen.specs.AlarmPieces.{look_clearing_code, looks_code, basing_code, alarms_code, returning_code, tick_code}
 use Rattle.service_gen.specs.Tick.{Ground, vector, next_value, counted_ground, alarms_ground, AreTaskBits, MayTick, TickEffect, IsTickCode}

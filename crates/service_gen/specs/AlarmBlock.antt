@@ -1,7 +1,6 @@
 -- Blocks of services on alarms.
-use Rattle.std.specs.Prelude.{ℕ, ◌<◌, List, [], length}
+use Rattle.std.specs.Prelude.{ℕ, ◌<◌, List, length}
 use Rattle.sloth_base.specs.declared.config.Config.{Config}
-use Rattle.sloth_base.specs.declared.image.Mark.{Mark}
 use Rattle.sloth_base.specs.declared.service.ObjectKind.{ObjectKind}
 use Rattle.sloth_base.specs.declared.service.ObjectKind.TheVariants as object
 use Rattle.sloth_base.specs.declared.service.Service.{Service}
@@ -21,10 +20,6 @@ IsAlarmOf config kind number = ⊥
 -- the services on alarms, each with an alarm
 abbrev pub HasAlarmBlock : Config → Service → ℕ → Type 0
 HasAlarmBlock config service object = IsAlarmOf config (object_kind service) object
-
--- no mark follows the opening
-abbrev pub no_marks : ℕ → List Mark
-no_marks at = []
 
 -- the code of a service with its alarm has the service's effect
 abbrev pub IsAlarmServiceBlock : Config → Service → ℕ → List InstrKind → Type 0

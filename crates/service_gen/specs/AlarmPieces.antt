@@ -7,7 +7,7 @@ use Rattle.rv32_instr.specs.declared.InstrKind.{InstrKind}
 use Rattle.rv32_instr.specs.declared.InstrKind.TheVariants.{Beq, Bne, Lui, Lw, Sw, Sb, Addi, Or, Slli, Mret}
 use Rattle.sloth_base.specs.Arithmetic.{hi, lo}
 use Rattle.block_parts.specs.Ticks.{passing_distance, look_code, suspension_test, awaited_events_test}
-use Rattle.service_gen.specs.declared.alarms.NumberedAlarm.{NumberedAlarm}
+use Rattle.service_gen.specs.declared.tick_code.NumberedAlarm.{NumberedAlarm}
 use Rattle.service_gen.specs.Alarms.{is_target}
 
 -- the counter's value grows by one, or goes from the greatest to 0

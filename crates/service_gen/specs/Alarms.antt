@@ -7,7 +7,7 @@ use Rattle.sloth_base.specs.declared.config.AlarmDecl.{AlarmDecl}
 use Rattle.sloth_base.specs.declared.config.Config.{Config}
 use Rattle.sloth_base.specs.Limits.{task_limit, alarm_limit}
 use Rattle.code_lengths.specs.CodeLengths.{sets_events_of}
-use Rattle.service_gen.specs.declared.alarms.NumberedAlarm.{NumberedAlarm}
+use Rattle.service_gen.specs.declared.tick_code.NumberedAlarm.{NumberedAlarm}
 
 -- the counter's alarms among these, of which the first has this number
 abbrev pub alarms_from : (counter first : ℕ) → List AlarmDecl → List NumberedAlarm

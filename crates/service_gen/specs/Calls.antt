@@ -1,7 +1,7 @@
 -- Blocks of all services.
 use Rattle.std.specs.Prelude.{ℕ, ◌<◌, List, length}
 use Rattle.sloth_base.specs.declared.config.Config.{Config}
-use Rattle.sloth_base.specs.declared.places.Levels.{Levels}
+use Rattle.sloth_base.specs.declared.limits.Levels.{Levels}
 use Rattle.sloth_base.specs.declared.service.ObjectKind.{ObjectKind}
 use Rattle.sloth_base.specs.declared.service.ObjectKind.TheVariants as object
 use Rattle.sloth_base.specs.declared.service.Service.{Service}

@@ -3,10 +3,8 @@ use Rattle.std.specs.Prelude.{ℕ, List, [], ◌∷◌, slice_index}
 use Rattle.sloth_base.specs.declared.image.Mark.{Mark}
 use Rattle.sloth_base.specs.declared.service.Service.{Service}
 use Rattle.sloth_base.specs.declared.service.Service.TheVariants.{ActivateTask, TerminateTask, ChainTask, Schedule, GetTaskID, GetTaskState, GetResource, ReleaseResource}
-use Rattle.sloth_base.specs.ServiceCodes.{object_kind}
-use Rattle.sloth_base.specs.declared.places.Levels.{Levels}
+use Rattle.sloth_base.specs.declared.limits.Levels.{Levels}
 use Rattle.rv32_instr.specs.declared.InstrKind.{InstrKind}
-use Rattle.block_parts.specs.Objects.{is_on_events, HasBlockUnless}
 use Rattle.service_gen.specs.ActivateTask.{IsActivateTaskCode}
 use Rattle.service_gen.specs.TerminateTask.{IsTerminateTaskCode}
 use Rattle.service_gen.specs.ChainTask.{IsChainTaskCode}
@@ -22,10 +20,6 @@ use Rattle.block_parts.specs.Marks.{back_mark}
 abbrev pub further_marks : Service → ℕ → List Mark
 further_marks Schedule at = back_mark (sum32 at way_back) ∷ []
 further_marks service at = []
-
--- the services whose code is generated here; the object is a task, a resource, or 0 where there is none
-abbrev pub HasBlock : Service → ℕ → Type 0
-HasBlock service object = HasBlockUnless (is_on_events service) (object_kind service) object
 
 -- the code of a service with its object has the service's effect
 abbrev pub IsTaskServiceBlock : Service → ℕ → Levels → List InstrKind → Type 0

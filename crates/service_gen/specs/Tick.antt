@@ -15,7 +15,7 @@ use Rattle.rv32_instr.specs.Ram.{word_at, with_word}
 use Rattle.masked_code.specs.Masked.{Masked, WithArrivals}
 use Rattle.masked_code.specs.Place.{offset_state, InPlace}
 use Rattle.masked_code.specs.Kernel.{CanRun, HasBases, IsOpenedCore}
-use Rattle.service_gen.specs.declared.alarms.NumberedAlarm.{NumberedAlarm}
+use Rattle.service_gen.specs.declared.tick_code.NumberedAlarm.{NumberedAlarm}
 use Rattle.service_gen.specs.Alarms.{targets}
 
 -- ---- the effect

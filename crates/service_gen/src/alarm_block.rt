@@ -3,16 +3,14 @@
 //!
 //! From the taking of a counter's line, with any arrivals and any number of alarms: the effect of the tick as a fold
 //! over its alarms, which lines it touches, and its length (`tick`; `specs/Tick`, `specs/Alarms`). Of SetRelAlarm,
-//! SetAbsAlarm, CancelAlarm and GetAlarm the same as of other services (`block`; a file of `specs/` for each). Lengths:
-//! `code_lengths` (`CodeLengths`); leaving: `masked_code` (`Kernel`).
+//! SetAbsAlarm, CancelAlarm and GetAlarm the same as of other services (a file of `specs/` for each).
 ghost use Rattle.std.specs.Prelude.{◌≡◌, ◌<◌, [], IfOk, length, slice_index, ◌^◌, ◌++◌, OnOk};
 ghost use Rattle.code_lengths.specs.CodeLengths.{service_length, tick_length};
 ghost use Rattle.sloth_base.specs.ConfigRange.{InRange};
 ghost use Rattle.sloth_base.specs.Named.{counter_declaration};
 ghost use Rattle.sloth_base.specs.Owners.{counter_line};
-ghost use Rattle.block_parts.specs.ServiceBlock.{IsServiceBlock};
 ghost use Rattle.service_gen.specs.Alarms.{counter_alarms};
-ghost use Rattle.service_gen.specs.AlarmBlock.{HasAlarmBlock, IsAlarmServiceBlock, no_marks};
+ghost use Rattle.service_gen.specs.AlarmBlock.{HasAlarmBlock, IsAlarmServiceBlock};
 ghost use Rattle.service_gen.specs.Tick.{IsTickCode};
 ghost use Rattle.sloth_base.specs.Limits.{alarm_limit, counter_limit};
 ghost use Rattle.service_gen.specs.ServicePieces.{used_alarm_test, unused_alarm_test, least_cycle_test};
@@ -22,17 +20,17 @@ ghost use Rattle.service_gen.specs.SetAlarm.{IsSetRelAlarmCode, IsSetAbsAlarmCod
 ghost use Rattle.service_gen.specs.CancelAlarm.{IsCancelAlarmCode};
 ghost use Rattle.service_gen.specs.GetAlarm.{IsGetAlarmCode};
 
-use crate::alarms::numbered_alarms;
-use crate::tick_code;
-use block_parts::{BACK, find_ticks, go_back, open, opening};
+use crate::tick_code::numbered_alarms;
+use crate::{Added, Code, tick_code};
+use block_parts::{BACK, find_ticks, go_back, open};
 use masked_code::{past, put};
 use rv32_instr::{A0, A1, Block, Instr, X1, X4, ZERO, addi, beq, bltu, bne, hi, lo, lui, lw, sw};
 use sloth_base::{
     Config, E_OK, E_OS_NOFUNC, E_OS_STATE, E_OS_VALUE, FIRST_COUNTER_LINE, Levels, List, Result,
-    Service, block_number,
+    Service,
 };
 use sloth_region::{Map, alarm_cycle, alarm_left};
-use std::alloc::{AllocError, Global};
+use std::alloc::Global;
 
 /// The block of the tick of a counter, 0 or 1, at the address of the handler of its line: 11 instructions, and at most
 /// 34 for each alarm of the counter. It saves no register. `NoMemory` where memory is wanting, and no other error.
@@ -61,38 +59,8 @@ pub fn tick(
     })
 }
 
-/// The block of a service on alarms with its alarm, 0 to 31, at its address in the map. Its first instruction, under an
-/// opening mark, masks interrupts. `NoMemory` where memory is wanting, and no other error.
-pub fn block(
-    alloc: Global,
-    service: Service,
-    object: u32,
-    config: &Config,
-    levels: &Levels,
-    map: &Map,
-) -> Result<Block>
-    requires alarm { HasAlarmBlock config.now service object }
-    requires range { InRange config.now }
-    ensures block { IfOk result (IsServiceBlock service object map.now.places.blocks no_marks) }
-    ensures effect { IfOk result (λ block. IsAlarmServiceBlock config.now service object block.code) }
-{
-    let at = map.places.blocks[block_number(service, object)];
-    let code = code(alloc, service, object, config)?;
-    let marks = Vec::from_slice(alloc, &[opening(at, service)])?;
-    Ok(Block {
-        at,
-        code: List::from_vec(code),
-        marks: List::from_vec(marks),
-    })
-}
-
-/// The instructions.
-fn code(
-    alloc: Global,
-    service: Service,
-    alarm: u32,
-    config: &Config,
-) -> Result<Vec<Instr>, AllocError>
+/// The instructions of a service on alarms with its alarm, 0 to 31.
+pub(crate) fn code(alloc: Global, service: Service, alarm: u32, config: &Config) -> Code
     requires alarm { HasAlarmBlock config.now service alarm }
     requires range { InRange config.now }
     ensures long { IfOk result (λ code. length code.items ≡ service_length service) }
@@ -132,7 +100,7 @@ const SET: u32 = 3 + BACK;
 const REFUSAL: u32 = 1 + BACK;
 
 /// The status of an alarm that isn't in use, and on behind two more where this one isn't.
-fn ask_used(code: &mut Vec<Instr>, alarm: u8) -> Result<(), AllocError>
+fn ask_used(code: &mut Vec<Instr>, alarm: u8) -> Added
     requires { alarm < alarm_limit }
     ensures { OnOk result (code.new.items ≡ code.old.items ++ used_alarm_test alarm) }
 {
@@ -140,7 +108,7 @@ fn ask_used(code: &mut Vec<Instr>, alarm: u8) -> Result<(), AllocError>
 }
 
 /// On behind so many instructions where the alarm is in use.
-fn ask_unused(code: &mut Vec<Instr>, alarm: u8, passed: u32) -> Result<(), AllocError>
+fn ask_unused(code: &mut Vec<Instr>, alarm: u8, passed: u32) -> Added
     requires { (alarm < alarm_limit) × (passed < 100) }
     ensures { OnOk result (code.new.items ≡ code.old.items ++ unused_alarm_test alarm passed) }
 {
@@ -148,7 +116,7 @@ fn ask_unused(code: &mut Vec<Instr>, alarm: u8, passed: u32) -> Result<(), Alloc
 }
 
 /// On behind so many instructions where the cycle isn't in range. Leaves the counter's greatest value in x1.
-fn ask_cycle(code: &mut Vec<Instr>, max: u32, least: u32, passed: u32) -> Result<(), AllocError>
+fn ask_cycle(code: &mut Vec<Instr>, max: u32, least: u32, passed: u32) -> Added
     requires { passed < 100 }
     ensures added { OnOk result (code.new.items ≡ code.old.items ++ cycle_test max least passed) }
     ensures fits { (max < 2 ^ 32) × (least < 2 ^ 32) }
@@ -158,7 +126,7 @@ fn ask_cycle(code: &mut Vec<Instr>, max: u32, least: u32, passed: u32) -> Result
 }
 
 /// On behind so many instructions where the cycle is below the least and not 0.
-fn ask_least(code: &mut Vec<Instr>, least: u32, passed: u32) -> Result<(), AllocError>
+fn ask_least(code: &mut Vec<Instr>, least: u32, passed: u32) -> Added
     requires { passed < 103 }
     ensures { OnOk result (code.new.items ≡ code.old.items ++ least_cycle_test least passed) }
 {
@@ -166,7 +134,7 @@ fn ask_least(code: &mut Vec<Instr>, least: u32, passed: u32) -> Result<(), Alloc
 }
 
 /// On behind so many instructions where the cycle is above the greatest value.
-fn ask_most(code: &mut Vec<Instr>, max: u32, passed: u32) -> Result<(), AllocError>
+fn ask_most(code: &mut Vec<Instr>, max: u32, passed: u32) -> Added
     requires { passed < 100 }
     ensures { OnOk result (code.new.items ≡ code.old.items ++ greatest_value_test max passed) }
 {
@@ -174,7 +142,7 @@ fn ask_most(code: &mut Vec<Instr>, max: u32, passed: u32) -> Result<(), AllocErr
 }
 
 /// On behind so many instructions where a0 is above the greatest value.
-fn ask_value(code: &mut Vec<Instr>, passed: u32) -> Result<(), AllocError>
+fn ask_value(code: &mut Vec<Instr>, passed: u32) -> Added
     requires { passed < 100 }
     ensures { OnOk result (code.new.items ≡ code.old.items ++ alarm_value_test passed) }
 {
@@ -182,7 +150,7 @@ fn ask_value(code: &mut Vec<Instr>, passed: u32) -> Result<(), AllocError>
 }
 
 /// The alarm gets the ticks in a0 and the cycle in a1.
-fn set(code: &mut Vec<Instr>, alarm: u8) -> Result<(), AllocError>
+fn set(code: &mut Vec<Instr>, alarm: u8) -> Added
     requires { alarm < alarm_limit }
     ensures { OnOk result (code.new.items ≡ code.old.items ++ setting_code alarm) }
 {
@@ -191,7 +159,7 @@ fn set(code: &mut Vec<Instr>, alarm: u8) -> Result<(), AllocError>
 }
 
 /// The refusals: a value out of range, an alarm in use.
-fn refuse(code: &mut Vec<Instr>) -> Result<(), AllocError>
+fn refuse(code: &mut Vec<Instr>) -> Added
     ensures { OnOk result (code.new.items ≡ code.old.items ++ refusing_code) }
 {
     put!(code; addi(A0, ZERO, E_OS_VALUE as i32))?;
@@ -204,12 +172,7 @@ fn refuse(code: &mut Vec<Instr>) -> Result<(), AllocError>
 const TICKS: u32 = 1 + VALUE;
 
 /// The looks at the alarm and at the operands, the ticks and the cycle, and the refusals.
-pub(crate) fn set_rel_alarm(
-    alloc: Global,
-    alarm: u8,
-    max: u32,
-    least: u32,
-) -> Result<Vec<Instr>, AllocError>
+pub(crate) fn set_rel_alarm(alloc: Global, alarm: u8, max: u32, least: u32) -> Code
     requires { alarm < alarm_limit }
     ensures { IfOk result (λ code. IsSetRelAlarmCode alarm max least code.items) }
 {
@@ -228,13 +191,7 @@ pub(crate) fn set_rel_alarm(
 const FIND: u32 = 6;
 
 /// The looks at the alarm and at the operands, the ticks and the cycle, and the refusals.
-pub(crate) fn set_abs_alarm(
-    alloc: Global,
-    alarm: u8,
-    counter: u8,
-    max: u32,
-    least: u32,
-) -> Result<Vec<Instr>, AllocError>
+pub(crate) fn set_abs_alarm(alloc: Global, alarm: u8, counter: u8, max: u32, least: u32) -> Code
     requires { (alarm < alarm_limit) × (counter < counter_limit) × (max < 2 ^ 31) }
     ensures { IfOk result (λ code. IsSetAbsAlarmCode alarm counter max least code.items) }
 {
@@ -250,7 +207,7 @@ pub(crate) fn set_abs_alarm(
 }
 
 /// The look at the alarm, its end, and the way back.
-pub(crate) fn cancel_alarm(alloc: Global, alarm: u8) -> Result<Vec<Instr>, AllocError>
+pub(crate) fn cancel_alarm(alloc: Global, alarm: u8) -> Code
     requires { alarm < alarm_limit }
     ensures { IfOk result (λ code. IsCancelAlarmCode alarm code.items) }
 {
@@ -263,7 +220,7 @@ pub(crate) fn cancel_alarm(alloc: Global, alarm: u8) -> Result<Vec<Instr>, Alloc
 }
 
 /// The look at the alarm, its ticks, and the way back.
-pub(crate) fn get_alarm(alloc: Global, alarm: u8) -> Result<Vec<Instr>, AllocError>
+pub(crate) fn get_alarm(alloc: Global, alarm: u8) -> Code
     requires { alarm < alarm_limit }
     ensures { IfOk result (λ code. IsGetAlarmCode alarm code.items) }
 {
@@ -276,7 +233,7 @@ pub(crate) fn get_alarm(alloc: Global, alarm: u8) -> Result<Vec<Instr>, AllocErr
 }
 
 /// The alarm has no ticks left, with the status E_OK.
-fn cancel(code: &mut Vec<Instr>, alarm: u8) -> Result<(), AllocError>
+fn cancel(code: &mut Vec<Instr>, alarm: u8) -> Added
     requires { alarm < alarm_limit }
     ensures { OnOk result (code.new.items ≡ code.old.items ++ cancelling_code alarm) }
 {
@@ -284,7 +241,7 @@ fn cancel(code: &mut Vec<Instr>, alarm: u8) -> Result<(), AllocError>
 }
 
 /// a1 := the ticks that the alarm has left, with the status E_OK.
-fn tell_ticks(code: &mut Vec<Instr>, alarm: u8) -> Result<(), AllocError>
+fn tell_ticks(code: &mut Vec<Instr>, alarm: u8) -> Added
     requires { alarm < alarm_limit }
     ensures { OnOk result (code.new.items ≡ code.old.items ++ telling_code alarm) }
 {

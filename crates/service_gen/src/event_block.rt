@@ -1,13 +1,9 @@
 //! The code of the operating system services on events (OSEK OS 2.2.3, section 13.5): SetEvent, ClearEvent, GetEvent,
 //! WaitEvent.
 //!
-//! From an opening mark, with any arrivals: the effect within 160 instructions, and the length (`block`; a file of
-//! `specs/` for each). The way back, the look at a task: `block_parts` (`Back`, `SuspensionTest`); leaving:
-//! `masked_code` (`Kernel`).
-ghost use Rattle.std.specs.Prelude.{◌≡◌, IfOk, length, ◌<◌, ◌++◌, OnOk};
-ghost use Rattle.code_lengths.specs.CodeLengths.{service_length};
-ghost use Rattle.block_parts.specs.ServiceBlock.{IsServiceBlock};
-ghost use Rattle.service_gen.specs.EventBlock.{HasEventBlock, IsEventServiceBlock, no_marks};
+//! From an opening mark, with any arrivals: the effect within 160 instructions, and the length (a file of `specs/` for
+//! each). The way back, the look at a task: `block_parts` (`Back`, `SuspensionTest`).
+ghost use Rattle.std.specs.Prelude.{◌≡◌, IfOk, ◌<◌, ◌++◌, OnOk};
 ghost use Rattle.sloth_base.specs.MemoryMap.{line_count};
 ghost use Rattle.service_gen.specs.EventPieces.{own_finding_code, mask_adding_code, controller_address_code};
 ghost use Rattle.service_gen.specs.EventPieces.{own_saving_code};
@@ -18,61 +14,22 @@ ghost use Rattle.service_gen.specs.ClearEvent.{IsClearEventCode};
 ghost use Rattle.service_gen.specs.GetEvent.{IsGetEventCode};
 ghost use Rattle.service_gen.specs.WaitEvent.{IsWaitEventCode};
 
-use block_parts::services::ask_awaited;
+use crate::{Added, Code};
+use block_parts::pieces::ask_awaited;
 use block_parts::{
-    BACK, OWN_ACTIVE, OWN_EVENTS, WAKE, clear_own, go_back, keep, leave, look, open, opening,
-    raise, refuse, tell_events,
+    BACK, OWN_ACTIVE, OWN_EVENTS, WAKE, clear_own, go_back, keep, leave, look, open, raise, refuse,
+    tell_events,
 };
 use masked_code::{X5, past, put, save};
 use rv32_instr::{
-    A0, Block, Instr, X1, X2, X3, X4, X30, ZERO, add, addi, and, beq, lui, lw, or, sb, slli, sw,
+    A0, Instr, X1, X2, X3, X4, X30, ZERO, add, addi, and, beq, lui, lw, or, sb, slli, sw,
 };
-use sloth_base::{Config, E_OK, Levels, List, Reg, Result, Service, block_number};
-use sloth_region::{CONTEXT_BYTES, CONTROLLER_HIGH, CUR, Map, enabled_byte, events};
-use std::alloc::{AllocError, Global};
-
-/// The block of a service on events with its object, at its address in the map. Its first instruction, under an opening
-/// mark, masks interrupts.
-#[tactic(auto, using(block_parts::proofs::Objects::few_objects))]
-pub fn block(
-    alloc: Global,
-    service: Service,
-    object: u32,
-    config: &Config,
-    levels: &Levels,
-    map: &Map,
-) -> Result<Block>
-    requires { HasEventBlock service object }
-    ensures block { IfOk result (IsServiceBlock service object map.now.places.blocks no_marks) }
-    ensures effect { IfOk result (λ block. IsEventServiceBlock service object block.code) }
-{
-    let at = map.places.blocks[block_number(service, object)];
-    let code = code(alloc, service, object as u8)?;
-    let marks = Vec::from_slice(alloc, &[opening(at, service)])?;
-    Ok(Block {
-        at,
-        code: List::from_vec(code),
-        marks: List::from_vec(marks),
-    })
-}
-
-/// The instructions.
-fn code(alloc: Global, service: Service, object: u8) -> Result<Vec<Instr>, AllocError>
-    requires { HasEventBlock service object }
-    ensures long { IfOk result (λ code. length code.items ≡ service_length service) }
-    ensures serves { IfOk result (λ code. IsEventServiceBlock service object code.items) }
-{
-    match service {
-        Service::SetEvent => set_event(alloc, object),
-        Service::ClearEvent => clear_event(alloc),
-        Service::GetEvent => get_event(alloc, object),
-        Service::WaitEvent => wait_event(alloc),
-        _ => unreachable!(),
-    }
-}
+use sloth_base::{E_OK, Reg};
+use sloth_region::{CONTEXT_BYTES, CONTROLLER_HIGH, CUR, enabled_byte, events};
+use std::alloc::Global;
 
 /// x1 := the place of the running task's words: they stand there and directly before. Uses another register.
-fn find_own(code: &mut Vec<Instr>, other: Reg) -> Result<(), AllocError>
+fn find_own(code: &mut Vec<Instr>, other: Reg) -> Added
     requires { other < line_count }
     ensures { OnOk result (code.new.items ≡ code.old.items ++ own_finding_code other) }
 {
@@ -86,7 +43,7 @@ const ADD: u32 = 3;
 const ASK: u32 = 4;
 
 /// The look at the task, its events, its line where one of them is awaited, and the way back.
-pub(crate) fn set_event(alloc: Global, task: u8) -> Result<Vec<Instr>, AllocError>
+pub(crate) fn set_event(alloc: Global, task: u8) -> Code
     requires { task < task_limit }
     ensures { IfOk result (λ code. IsSetEventCode task code.items) }
 {
@@ -103,7 +60,7 @@ pub(crate) fn set_event(alloc: Global, task: u8) -> Result<Vec<Instr>, AllocErro
 }
 
 /// The running task's events without those of the mask, and the way back.
-pub(crate) fn clear_event(alloc: Global) -> Result<Vec<Instr>, AllocError>
+pub(crate) fn clear_event(alloc: Global) -> Code
     ensures { IfOk result (λ code. IsClearEventCode code.items) }
 {
     let mut code = Vec::new(alloc);
@@ -115,7 +72,7 @@ pub(crate) fn clear_event(alloc: Global) -> Result<Vec<Instr>, AllocError>
 }
 
 /// The look at the task, its events where it isn't Suspended, and the way back.
-pub(crate) fn get_event(alloc: Global, task: u8) -> Result<Vec<Instr>, AllocError>
+pub(crate) fn get_event(alloc: Global, task: u8) -> Code
     requires { task < task_limit }
     ensures { IfOk result (λ code. IsGetEventCode task code.items) }
 {
@@ -134,7 +91,7 @@ const OWN_WAIT: i32 = 0;
 const OWN_ENABLED: i32 = 31;
 
 /// The look at the events, and then the way back, or the rest and the way to what runs below.
-pub(crate) fn wait_event(alloc: Global) -> Result<Vec<Instr>, AllocError>
+pub(crate) fn wait_event(alloc: Global) -> Code
     ensures { IfOk result (λ code. IsWaitEventCode code.items) }
 {
     let mut code = Vec::new(alloc);
@@ -154,14 +111,14 @@ pub(crate) fn wait_event(alloc: Global) -> Result<Vec<Instr>, AllocError>
 }
 
 /// x3 := the controller's address again.
-fn hold_controller(code: &mut Vec<Instr>) -> Result<(), AllocError>
+fn hold_controller(code: &mut Vec<Instr>) -> Added
     ensures { OnOk result (code.new.items ≡ code.old.items ++ controller_address_code) }
 {
     put!(code; lui(X3, CONTROLLER_HIGH))
 }
 
 /// Saves the registers in the context directly below x2.
-fn save_own(code: &mut Vec<Instr>) -> Result<(), AllocError>
+fn save_own(code: &mut Vec<Instr>) -> Added
     ensures { OnOk result (code.new.items ≡ code.old.items ++ own_saving_code) }
 {
     put!(code; addi(X1, X2, -CONTEXT_BYTES))?;
@@ -169,7 +126,7 @@ fn save_own(code: &mut Vec<Instr>) -> Result<(), AllocError>
 }
 
 /// Adds the events of the mask in x30 to the task's, which stay in x1.
-fn add_events(code: &mut Vec<Instr>, task: u8) -> Result<(), AllocError>
+fn add_events(code: &mut Vec<Instr>, task: u8) -> Added
     requires { task < task_limit }
     ensures { OnOk result (code.new.items ≡ code.old.items ++ mask_adding_code task) }
 {
@@ -177,7 +134,7 @@ fn add_events(code: &mut Vec<Instr>, task: u8) -> Result<(), AllocError>
 }
 
 /// Enables the task's line. x1 holds 1.
-fn enable(code: &mut Vec<Instr>, task: u8) -> Result<(), AllocError>
+fn enable(code: &mut Vec<Instr>, task: u8) -> Added
     requires { task < task_limit }
     ensures { OnOk result (code.new.items ≡ code.old.items ++ enabling_code task) }
 {

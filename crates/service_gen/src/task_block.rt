@@ -2,14 +2,8 @@
 //!
 //! From an opening mark, with any arrivals: the effect within 160 instructions, and the length, of TerminateTask,
 //! ActivateTask, ChainTask, GetTaskID, GetTaskState, GetResource, ReleaseResource and Schedule, and from the mark of
-//! the way back from Schedule (`block`; a file of `specs/` for each). What all blocks share: `block_parts`
-//! (`ServiceBlock`); leaving: `masked_code` (`Kernel`).
-ghost use Rattle.std.specs.Prelude.{◌≡◌, ◌∷◌, IfOk, length, ◌<◌, ◌++◌, OnOk, ◌≤◌};
-ghost use Rattle.sloth_base.specs.ServiceCodes.{code_of};
-ghost use Rattle.code_lengths.specs.CodeLengths.{service_length};
-ghost use Rattle.block_parts.specs.Marks.{opening};
-ghost use Rattle.block_parts.specs.ServiceBlock.{IsServiceBlock};
-ghost use Rattle.service_gen.specs.TaskBlock.{further_marks, HasBlock, IsTaskServiceBlock};
+//! the way back from Schedule (a file of `specs/` for each).
+ghost use Rattle.std.specs.Prelude.{◌≡◌, IfOk, ◌<◌, ◌++◌, OnOk, ◌≤◌};
 ghost use Rattle.sloth_base.specs.Limits.{task_limit};
 ghost use Rattle.service_gen.specs.TaskPieces.{active_task_test, active_telling_code, waiting_task_test};
 ghost use Rattle.service_gen.specs.ActivateTask.{IsActivateTaskCode};
@@ -22,81 +16,21 @@ ghost use Rattle.sloth_base.specs.ConfigRange.{scheduler_number};
 ghost use Rattle.service_gen.specs.GetResource.{IsGetResourceCode};
 ghost use Rattle.service_gen.specs.ReleaseResource.{IsReleaseResourceCode};
 
+use crate::{Added, Code};
 use block_parts::{
-    BACK, ask, back_mark, end, go_back, leave, look, lower, open, opening, raise, release, take,
-    tell_resting,
+    BACK, ask, end, go_back, leave, look, lower, open, raise, release, take, tell_resting,
 };
 use masked_code::{past, put};
 use rv32_instr::{
-    A0, A1, Block, Instr, MEPC, MIE, MSTATUS, PLEVEL, X1, X3, X4, X30, X31, ZERO, addi, beq, bne,
-    csrrci, csrrw, jal, lbu, lw, mret, slli, sltu, xori,
+    A0, A1, Instr, MEPC, MIE, MSTATUS, PLEVEL, X1, X3, X4, X30, X31, ZERO, addi, beq, bne, csrrci,
+    csrrw, jal, lbu, lw, mret, slli, sltu, xori,
 };
-use sloth_base::{Config, E_OK, E_OS_LIMIT, Levels, List, Mark, Result, Service, block_number};
-use sloth_region::{CUR, Map, active, enabled_byte};
-use std::alloc::{AllocError, Global};
-
-/// A service's block with its object, by the map. Its first instruction, under an opening mark, masks interrupts.
-#[tactic(auto, using(block_parts::proofs::Objects::few_objects))]
-pub fn block(
-    alloc: Global,
-    service: Service,
-    object: u32,
-    config: &Config,
-    levels: &Levels,
-    map: &Map,
-) -> Result<Block>
-    requires { HasBlock service object }
-    ensures block { IfOk result (IsServiceBlock service object map.now.places.blocks (further_marks service)) }
-    ensures effect { IfOk result (λ block. IsTaskServiceBlock service object levels.now block.code) }
-{
-    let at = map.places.blocks[block_number(service, object)];
-    let code = code(alloc, service, object as u8, levels)?;
-    let marks = marks(alloc, service, at)?;
-    Ok(Block {
-        at,
-        code: List::from_vec(code),
-        marks: List::from_vec(marks),
-    })
-}
-
-/// The opening mark of a block at this address, and behind Schedule's the mark of the way back.
-fn marks(alloc: Global, service: Service, at: u32) -> Result<Vec<Mark>, AllocError>
-    ensures { IfOk result (λ marks. marks.items ≡ opening at (code_of service) ∷ further_marks service at) }
-{
-    let mut marks = Vec::new(alloc);
-    marks.push(opening(at, service))?;
-    if let Service::Schedule = service {
-        marks.push(back_mark(at.wrapping_add(WAY_BACK)))?;
-    }
-    Ok(marks)
-}
-
-/// The instructions.
-fn code(
-    alloc: Global,
-    service: Service,
-    object: u8,
-    levels: &Levels,
-) -> Result<Vec<Instr>, AllocError>
-    requires { HasBlock service object }
-    ensures long { IfOk result (λ code. length code.items ≡ service_length service) }
-    ensures serves { IfOk result (λ code. IsTaskServiceBlock service object levels.now code.items) }
-{
-    match service {
-        Service::ActivateTask => activate_task(alloc, object),
-        Service::TerminateTask => terminate_task(alloc),
-        Service::ChainTask => chain_task(alloc, object),
-        Service::Schedule => schedule(alloc),
-        Service::GetTaskID => get_task_id(alloc),
-        Service::GetTaskState => get_task_state(alloc, object),
-        Service::GetResource => { get_resource(alloc, object, levels.ceiling[object as usize]) }
-        Service::ReleaseResource => release_resource(alloc, object),
-        _ => unreachable!(),
-    }
-}
+use sloth_base::{E_OK, E_OS_LIMIT};
+use sloth_region::{CUR, active, enabled_byte};
+use std::alloc::Global;
 
 /// The look at the task, the raised line, and the way back.
-pub(crate) fn activate_task(alloc: Global, task: u8) -> Result<Vec<Instr>, AllocError>
+pub(crate) fn activate_task(alloc: Global, task: u8) -> Code
     requires { task < task_limit }
     ensures { IfOk result (λ code. IsActivateTaskCode task code.items) }
 {
@@ -111,7 +45,7 @@ pub(crate) fn activate_task(alloc: Global, task: u8) -> Result<Vec<Instr>, Alloc
 }
 
 /// The masking instruction, the end of the running task, and the way to what runs below.
-pub(crate) fn terminate_task(alloc: Global) -> Result<Vec<Instr>, AllocError>
+pub(crate) fn terminate_task(alloc: Global) -> Code
     ensures { IfOk result (λ code. IsTerminateTaskCode code.items) }
 {
     let mut code = Vec::new(alloc);
@@ -122,7 +56,7 @@ pub(crate) fn terminate_task(alloc: Global) -> Result<Vec<Instr>, AllocError>
 }
 
 /// The look at the task with the refusal, and then the caller's end, the raised line and the way to what runs below.
-pub(crate) fn chain_task(alloc: Global, task: u8) -> Result<Vec<Instr>, AllocError>
+pub(crate) fn chain_task(alloc: Global, task: u8) -> Code
     requires { task < task_limit }
     ensures { IfOk result (λ code. IsChainTaskCode task code.items) }
 {
@@ -140,13 +74,13 @@ pub(crate) fn chain_task(alloc: Global, task: u8) -> Result<Vec<Instr>, AllocErr
 }
 
 /// Where the way back stands, in bytes from the first instruction.
-pub const WAY_BACK: u32 = 24;
+pub(crate) const WAY_BACK: u32 = 24;
 
 /// How many instructions the way back has.
 const COME_BACK: u32 = 4;
 
 /// The lower level, and within it the way back, which is passed; its address is in x1.
-pub(crate) fn schedule(alloc: Global) -> Result<Vec<Instr>, AllocError>
+pub(crate) fn schedule(alloc: Global) -> Code
     ensures { IfOk result (λ code. IsScheduleCode code.items) }
 {
     let mut code = Vec::new(alloc);
@@ -159,7 +93,7 @@ pub(crate) fn schedule(alloc: Global) -> Result<Vec<Instr>, AllocError>
 }
 
 /// The running task's number, and the way back.
-pub(crate) fn get_task_id(alloc: Global) -> Result<Vec<Instr>, AllocError>
+pub(crate) fn get_task_id(alloc: Global) -> Code
     ensures { IfOk result (λ code. IsGetTaskIDCode code.items) }
 {
     let mut code = Vec::new(alloc);
@@ -179,7 +113,7 @@ const TELL_ACTIVE: u32 = 4;
 const TELL_RESTING: u32 = 2;
 
 /// The number where the task is Active with the way back, and then the number where it is not, with the way back.
-pub(crate) fn get_task_state(alloc: Global, task: u8) -> Result<Vec<Instr>, AllocError>
+pub(crate) fn get_task_state(alloc: Global, task: u8) -> Code
     requires { task < task_limit }
     ensures { IfOk result (λ code. IsGetTaskStateCode task code.items) }
 {
@@ -195,7 +129,7 @@ pub(crate) fn get_task_state(alloc: Global, task: u8) -> Result<Vec<Instr>, Allo
 }
 
 /// The status E_OK; goes on behind the first way back where the task is not Active.
-fn ask_active(code: &mut Vec<Instr>, task: u8) -> Result<(), AllocError>
+fn ask_active(code: &mut Vec<Instr>, task: u8) -> Added
     requires { task < task_limit }
     ensures { OnOk result (code.new.items ≡ code.old.items ++ active_task_test task) }
 {
@@ -203,7 +137,7 @@ fn ask_active(code: &mut Vec<Instr>, task: u8) -> Result<(), AllocError>
 }
 
 /// a1 := 1; goes on at the way back where the task waits.
-fn ask_waiting(code: &mut Vec<Instr>, task: u8) -> Result<(), AllocError>
+fn ask_waiting(code: &mut Vec<Instr>, task: u8) -> Added
     requires { task < task_limit }
     ensures { OnOk result (code.new.items ≡ code.old.items ++ waiting_task_test task) }
 {
@@ -211,7 +145,7 @@ fn ask_waiting(code: &mut Vec<Instr>, task: u8) -> Result<(), AllocError>
 }
 
 /// a1 := 0 where the task runs, and 2 where it is preempted.
-fn tell_active(code: &mut Vec<Instr>, task: u8) -> Result<(), AllocError>
+fn tell_active(code: &mut Vec<Instr>, task: u8) -> Added
     requires { task < task_limit }
     ensures { OnOk result (code.new.items ≡ code.old.items ++ active_telling_code task) }
 {
@@ -219,11 +153,7 @@ fn tell_active(code: &mut Vec<Instr>, task: u8) -> Result<(), AllocError>
 }
 
 /// The saved level, the greater level, and the way back.
-pub(crate) fn get_resource(
-    alloc: Global,
-    resource: u8,
-    ceiling: u8,
-) -> Result<Vec<Instr>, AllocError>
+pub(crate) fn get_resource(alloc: Global, resource: u8, ceiling: u8) -> Code
     requires { resource ≤ scheduler_number }
     ensures { IfOk result (λ code. IsGetResourceCode resource ceiling code.items) }
 {
@@ -236,7 +166,7 @@ pub(crate) fn get_resource(
 }
 
 /// The saved level, and the way back.
-pub(crate) fn release_resource(alloc: Global, resource: u8) -> Result<Vec<Instr>, AllocError>
+pub(crate) fn release_resource(alloc: Global, resource: u8) -> Code
     requires { resource ≤ scheduler_number }
     ensures { IfOk result (λ code. IsReleaseResourceCode resource code.items) }
 {

@@ -4,7 +4,7 @@ use Rattle.std.proofs.lemmas.Bool.{cases_Bool, cond-true, cond-false}
 use Rattle.sloth_base.specs.declared.config.Config.{Config}
 use Rattle.sloth_base.specs.declared.app.App.{App}
 use Rattle.sloth_base.specs.declared.service.Stamped.{Stamped}
-use Rattle.sloth_base.specs.declared.places.Bounds.{Bounds}
+use Rattle.sloth_base.specs.declared.limits.Bounds.{Bounds}
 use Rattle.sloth_base.specs.Named.{declaration, undeclared_task}
 use Rattle.stack_bounds.specs.Bounds.{IsBasic, MayBePreempted, AreStacked, AreBounds}
 use Rattle.stack_bounds.proofs.Stacked as stacked

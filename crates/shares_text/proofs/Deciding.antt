@@ -16,8 +16,8 @@ use Rattle.call_graph.proofs.Itself.{number_found, number_counts}
 use Rattle.osek_scheduler.proofs.Facts.{facts}
 use Rattle.osek_scheduler.proofs.Tests.{itself}
 use Rattle.sloth_source.proofs.Unique.{one_meaning}
-use Rattle.shares_text.specs.declared.kinds.Kind.{Kind}
-use Rattle.shares_text.specs.declared.kinds.Kind.TheVariants as kind
+use Rattle.shares_text.specs.declared.unused.Kind.{Kind}
+use Rattle.shares_text.specs.declared.unused.Kind.TheVariants as kind
 use Rattle.shares_text.specs.Uses.{is_declared_use, IsReached, IsUsedByCode, IsUsed}
 use Rattle.shares_text.specs.UsesBy.{has_task, is_function_use, is_code_use, is_used_by}
 use Rattle.shares_text.specs.UnusedText.{count_of, unused_line, lines_below, lines_of, unused_lines, HasUnused, OneUnusedText}

@@ -17,8 +17,8 @@ use Rattle.code_rules.specs.WellFormed.{held_list_before}
 use Rattle.osek_scheduler.specs.Priority.{greatest}
 use Rattle.call_graph.specs.declared.lists.Ranks.{Ranks}
 use Rattle.call_graph.specs.Ranks.{RanksOf}
-use Rattle.shares_text.specs.declared.held.Held.{Held}
-use Rattle.shares_text.specs.declared.held.HeldRow.{HeldRow}
+use Rattle.shares_text.specs.declared.sites.Held.{Held}
+use Rattle.shares_text.specs.declared.sites.HeldRow.{HeldRow}
 use Rattle.shares_text.specs.declared.sites.CallSite.{CallSite}
 use Rattle.shares_text.specs.Accesses.{symbol_of, is_store}
 use Rattle.shares_text.specs.Sites.{no_held, no_row, IsHeld, AreHeld, AreAllHeld, gather_items, gather, call_of, call_at, access_to, access_at, is_of_rank, down_from, IsCallSite, IsAccess}

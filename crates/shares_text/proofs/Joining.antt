@@ -20,7 +20,7 @@ use Rattle.call_graph.proofs.Sets.{has_or}
 use Rattle.osek_blocking.specs.Walks.{Position, place}
 use Rattle.osek_blocking.specs.Sections.{held_list_along, priority_at}
 use Rattle.shares_text.specs.declared.contexts.Context.{Context}
-use Rattle.shares_text.specs.declared.held.Held.{Held}
+use Rattle.shares_text.specs.declared.sites.Held.{Held}
 use Rattle.shares_text.specs.Sites.{IsHeld}
 use Rattle.shares_text.specs.Contexts.{through, joined, no_context, IsContextOf}
 

@@ -21,7 +21,7 @@ use Rattle.osek_blocking.specs.Sections.{priority_at}
 use Rattle.shares_text.specs.declared.contexts.Contexts.{Contexts}
 use Rattle.shares_text.specs.declared.open_pairs.OpenPair.{OpenPair}
 use Rattle.shares_text.specs.declared.sites.Access.{Access}
-use Rattle.shares_text.specs.declared.data_uses.Use.{Use}
+use Rattle.shares_text.specs.declared.contexts.Use.{Use}
 use Rattle.shares_text.specs.declared.verdict.Verdict.{Verdict}
 use Rattle.shares_text.specs.declared.verdict.Verdict.TheVariants as verdict
 use Rattle.shares_text.specs.Accesses.{IsCalledFrom, Uses, IsAlwaysHeld, stores_at}

@@ -14,7 +14,7 @@ use Rattle.osek_scheduler.proofs.Facts.{facts}
 use Rattle.call_graph.specs.Bits.{is_member}
 use Rattle.osek_blocking.specs.Walks.{Place, Position, place}
 use Rattle.shares_text.specs.declared.keepers.Keeper.{Keeper}
-use Rattle.shares_text.specs.declared.data_uses.Use.{Use}
+use Rattle.shares_text.specs.declared.contexts.Use.{Use}
 use Rattle.shares_text.specs.Accesses.{IsUse, Uses, IsAlwaysHeld}
 use Rattle.walk_sums.specs.Ceilings.{AreResourceCeilings}
 use Rattle.shares_text.specs.Contexts.{IsUseOf, AreUses, is_use_at}

@@ -8,7 +8,7 @@ use Rattle.sloth_base.specs.Named.{undeclared_task}
 use Rattle.call_graph.specs.Bits.{is_member}
 use Rattle.osek_scheduler.specs.Priority.{greatest}
 use Rattle.shares_text.specs.declared.keepers.Keeper.{Keeper}
-use Rattle.shares_text.specs.declared.data_uses.Use.{Use}
+use Rattle.shares_text.specs.declared.contexts.Use.{Use}
 use Rattle.shares_text.specs.Computed.{priority_in, is_user_under, higher_of, IsNextUser, IsKeeperBy, AreKeepersBy}
 
 -- a number above all priorities below this one

@@ -4,7 +4,6 @@ use Rattle.std.specs.Prelude.{codes}
 use Rattle.std.proofs.Math.Numerals.{add-one}
 use Rattle.sloth_base.specs.declared.config.Config.{Config}
 use Rattle.sloth_base.specs.declared.app.App.{App}
-use Rattle.sloth_base.specs.declared.app.Symbol.{Symbol}
 use Rattle.sloth_base.specs.Named.{no_symbol}
 use Rattle.sloth_source.proofs.Unique.{one_meaning}
 use Rattle.shares_text.specs.declared.verdict.Verdict.{Verdict}
@@ -22,11 +21,11 @@ pub one-line-more : (config : Config) (app : App) (verdicts : List Verdict) (k :
 unfolding share_lines
 one-line-more config app verdicts k = ap (share_lines config app verdicts) (add-one k)
 
-pub line-is : (config : Config) (app : App) (verdicts : List Verdict) (k : ℕ) (symbol : Symbol) (v : Verdict) → symbol ≡ get_or app.symbols k no_symbol
-    → v ≡ get_or verdicts k verdict.Unused → ((symbol.name ++ verdict_words config v) ++ codes "\n") ≡ share_line config app verdicts k
+pub line-is : (config : Config) (app : App) (verdicts : List Verdict) (k : ℕ) (name : List ℕ) (v : Verdict) → name ≡ (get_or app.symbols k no_symbol).name
+    → v ≡ get_or verdicts k verdict.Unused → ((name ++ verdict_words config v) ++ codes "\n") ≡ share_line config app verdicts k
 unfolding share_line
-line-is config app verdicts k symbol v s e =
-    ap (λ (x : Symbol). (x.name ++ verdict_words config v) ++ codes "\n") s ∙ ap (λ x. ((get_or app.symbols k no_symbol).name ++ verdict_words config x) ++ codes "\n") e
+line-is config app verdicts k name v s e =
+    ap (λ (x : List ℕ). (x ++ verdict_words config v) ++ codes "\n") s ∙ ap (λ x. ((get_or app.symbols k no_symbol).name ++ verdict_words config x) ++ codes "\n") e
 
 same-line : (config : Config) (app : App) (one other : List Verdict) (k : ℕ)
     → verdict_words config (get_or one k verdict.Unused) ≡ verdict_words config (get_or other k verdict.Unused) → share_line config app one k ≡ share_line config app other k

@@ -8,7 +8,7 @@ use Rattle.sloth_base.specs.declared.config.TaskDecl.{TaskDecl}
 use Rattle.sloth_base.specs.Named.{undeclared_task}
 use Rattle.shares_text.specs.declared.open_pairs.Firsts.{Firsts}
 use Rattle.shares_text.specs.declared.open_pairs.OpenPair.{OpenPair}
-use Rattle.shares_text.specs.declared.data_uses.Use.{Use}
+use Rattle.shares_text.specs.declared.contexts.Use.{Use}
 use Rattle.shares_text.specs.Verdicts.{is_before}
 use Rattle.shares_text.specs.Computed.{no_firsts, least_line, firsts_with, firsts_of, AreFirsts, high_line, pair_with, pair_of, first_of, first_pair, first_pairs, IsPairBy, priority_in}
 use Rattle.shares_text.proofs.Members.{In}

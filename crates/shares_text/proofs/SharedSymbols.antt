@@ -9,7 +9,7 @@ use Rattle.code_rules.specs.Code.{HasCall, IsCallChain, Reaches, TaskReaches}
 use Rattle.call_graph.proofs.Itself.{item_found, body_is, is_body}
 use Rattle.osek_blocking.specs.Walks.{Position, place}
 use Rattle.shares_text.specs.Accesses.{symbol_of, IsCalledFrom, Uses}
-use Rattle.shares_text.specs.declared.kinds.Kind.TheVariants as kind
+use Rattle.shares_text.specs.declared.unused.Kind.TheVariants as kind
 use Rattle.shares_text.specs.Uses.{is_use, IsUsed}
 use Rattle.shares_text.specs.UnusedText.{SymbolsAgree}
 

@@ -17,7 +17,7 @@ use Rattle.osek_blocking.specs.Sections.{held_list_along, priority_at}
 use Rattle.shares_text.specs.declared.contexts.Context.{Context}
 use Rattle.shares_text.specs.declared.contexts.Contexts.{Contexts}
 use Rattle.shares_text.specs.declared.sites.Access.{Access}
-use Rattle.shares_text.specs.declared.data_uses.Use.{Use}
+use Rattle.shares_text.specs.declared.contexts.Use.{Use}
 use Rattle.shares_text.specs.Accesses.{symbol_of, IsCalledFrom, IsUse}
 use Rattle.shares_text.specs.Sites.{IsAccess}
 use Rattle.shares_text.specs.Contexts.{no_context, through, IsContextOf, IsContext, AreContexts, IsUseOf, AreUses, is_use_at}

@@ -10,7 +10,7 @@ use Rattle.shares_text.specs.declared.keepers.Keeper.{Keeper}
 use Rattle.shares_text.specs.declared.open_pairs.Firsts.{Firsts}
 use Rattle.shares_text.specs.declared.open_pairs.OpenPair.{OpenPair}
 use Rattle.shares_text.specs.declared.sites.Access.{Access}
-use Rattle.shares_text.specs.declared.data_uses.Use.{Use}
+use Rattle.shares_text.specs.declared.contexts.Use.{Use}
 use Rattle.shares_text.specs.Contexts.{no_context, through}
 use Rattle.shares_text.specs.Verdicts.{is_before}
 

@@ -9,10 +9,10 @@ use Rattle.code_rules.specs.Code.{is_in}
 use Rattle.osek_blocking.specs.Walks.{Position, place}
 use Rattle.osek_blocking.specs.Sections.{held_list_along, priority_at}
 use Rattle.call_graph.specs.Bits.{is_member}
-use Rattle.shares_text.specs.declared.held.Held.{Held}
+use Rattle.shares_text.specs.declared.sites.Held.{Held}
 use Rattle.shares_text.specs.declared.contexts.Context.{Context}
 use Rattle.shares_text.specs.declared.sites.CallSite.{CallSite}
-use Rattle.shares_text.specs.declared.data_uses.Use.{Use}
+use Rattle.shares_text.specs.declared.contexts.Use.{Use}
 use Rattle.shares_text.specs.Accesses.{IsCalledFrom, IsUse, IsAlwaysHeld, IsLeastPriority, stores_at}
 use Rattle.shares_text.specs.Sites.{no_held}
 

@@ -11,8 +11,8 @@ use Rattle.code_rules.specs.Code.{IsItem, held_list_at, is_in}
 use Rattle.code_rules.specs.WellFormed.{held_list_before}
 use Rattle.osek_scheduler.specs.Priority.{greatest, ceiling}
 use Rattle.call_graph.specs.Bits.{is_member}
-use Rattle.shares_text.specs.declared.held.Held.{Held}
-use Rattle.shares_text.specs.declared.held.HeldRow.{HeldRow}
+use Rattle.shares_text.specs.declared.sites.Held.{Held}
+use Rattle.shares_text.specs.declared.sites.HeldRow.{HeldRow}
 use Rattle.shares_text.specs.declared.sites.Access.{Access}
 use Rattle.shares_text.specs.declared.sites.CallSite.{CallSite}
 use Rattle.shares_text.specs.Accesses.{symbol_of, is_store}

@@ -6,8 +6,8 @@ use Rattle.sloth_base.specs.ConfigRange.{no_event}
 use Rattle.sloth_base.specs.Named.{declaration, alarm_declaration, function, no_symbol}
 use Rattle.sloth_source.specs.Texts.{AreAccepted}
 use Rattle.shares_text.specs.Accesses.{Uses}
-use Rattle.shares_text.specs.declared.kinds.Kind.{Kind}
-use Rattle.shares_text.specs.declared.kinds.Kind.TheVariants as kind
+use Rattle.shares_text.specs.declared.unused.Kind.{Kind}
+use Rattle.shares_text.specs.declared.unused.Kind.TheVariants as kind
 use Rattle.shares_text.specs.Uses.{IsUsed}
 
 -- ---- lines

@@ -16,8 +16,8 @@ use Rattle.sloth_base.specs.ServiceCodes.{has_mask}
 use Rattle.code_rules.specs.Code.{TaskReaches}
 use Rattle.call_graph.specs.Rows.{is_call, is_taking}
 use Rattle.shares_text.specs.Accesses.{symbol_of}
-use Rattle.shares_text.specs.declared.kinds.Kind.{Kind}
-use Rattle.shares_text.specs.declared.kinds.Kind.TheVariants as kind
+use Rattle.shares_text.specs.declared.unused.Kind.{Kind}
+use Rattle.shares_text.specs.declared.unused.Kind.TheVariants as kind
 
 -- ---- items
 

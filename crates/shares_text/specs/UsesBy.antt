@@ -6,7 +6,7 @@ use Rattle.sloth_base.specs.declared.app.App.{App}
 use Rattle.sloth_base.specs.declared.app.Func.{Func}
 use Rattle.call_graph.specs.Bits.{is_member}
 use Rattle.call_graph.specs.Reached.{any_below, func_of}
-use Rattle.shares_text.specs.declared.kinds.Kind.{Kind}
+use Rattle.shares_text.specs.declared.unused.Kind.{Kind}
 use Rattle.shares_text.specs.Uses.{is_use, is_declared_use}
 
 -- one of the first so many tasks is in the set

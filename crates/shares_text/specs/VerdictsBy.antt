@@ -5,7 +5,7 @@ use Rattle.sloth_base.specs.Limits.{ceiling_count}
 use Rattle.sloth_base.specs.declared.config.TaskDecl.{TaskDecl}
 use Rattle.call_graph.specs.Bits.{is_member}
 use Rattle.shares_text.specs.declared.keepers.Keeper.{Keeper}
-use Rattle.shares_text.specs.declared.data_uses.Use.{Use}
+use Rattle.shares_text.specs.declared.contexts.Use.{Use}
 use Rattle.shares_text.specs.declared.verdict.Verdict.{Verdict}
 use Rattle.shares_text.specs.declared.verdict.Verdict.TheVariants as verdict
 use Rattle.shares_text.specs.Computed.{IsPairBy, AreKeepersBy}

@@ -1,10 +1,11 @@
 //! What a task holds as it enters a function, and its least current priority there, over all ways of calls.
-ghost use Rattle.std.specs.Prelude.{◌≡◌, ◌<◌, ℕ, length, get_or, set, replicate, IfOk};
-ghost use Rattle.shares_text.specs.Contexts.{no_call, no_context, through, joined, spread, spread_all, start_context};
+//! The uses of a symbol: each access to it by each task that comes there.
+ghost use Rattle.std.specs.Prelude.{◌≡◌, ◌<◌, ℕ, length, get_or, set, replicate, IfOk, ◌++◌, OnOk};
+ghost use Rattle.shares_text.specs.Contexts.{no_call, no_context, through, joined, spread_all, start_context};
+ghost use Rattle.shares_text.specs.Computed.{uses_by, uses_among};
 
-use crate::held::Held;
-use crate::sets::entry;
-use crate::sites::CallSite;
+use crate::sites::{Access, CallSite, Held};
+use crate::verdict::entry;
 use sloth_base::{List, Result};
 use std::alloc::Global;
 use text_pieces::push;
@@ -42,7 +43,6 @@ pub fn through(context: Context, held: Held) -> Context
     }
 }
 
-// The context over the ways of both.
 fn joined(one: Context, other: Context) -> Context
     ensures { result ≡ joined one other }
 {
@@ -59,33 +59,15 @@ fn joined(one: Context, other: Context) -> Context
     }
 }
 
-// The table with the ways through one more call.
-fn spread(table: &mut [Context], call: &CallSite)
-    requires { call.now.callee < length table.old }
-    ensures { table.new ≡ spread table.old call.now }
-{
-    let entered = through(entry(table, call.caller, NO_CONTEXT), call.held);
-    table[call.callee] = joined(entry(table, call.callee, NO_CONTEXT), entered);
-}
-
 // The table with the ways through these calls, in their order.
 fn spread_all(table: &mut [Context], calls: &[CallSite])
     requires { (k : ℕ) → k < length calls.now → (get_or calls.now k no_call).callee < length table.old }
     ensures { table.new ≡ spread_all table.old calls.now }
 {
     for call in calls {
-        spread(table, call);
+        let entered = through(entry(table, call.caller, NO_CONTEXT), call.held);
+        table[call.callee] = joined(entry(table, call.callee, NO_CONTEXT), entered);
     }
-}
-
-fn no_contexts(alloc: Global, count: usize) -> Result<Vec<Context>>
-    ensures { IfOk result (λ table. table.items ≡ replicate count no_context) }
-{
-    let mut table = Vec::new(alloc);
-    for _number in 0..count {
-        push(&mut table, NO_CONTEXT)?;
-    }
-    Ok(table)
 }
 
 /// The contexts of a task: its body is entered at this priority, holding nothing, and the calls lead on from there.
@@ -101,7 +83,7 @@ pub fn body_contexts(
     ensures { IfOk result (λ contexts. contexts.table
         ≡ spread_all (set (replicate count no_context) body (start_context priority)) calls.now) }
 {
-    let mut table = no_contexts(alloc, count)?;
+    let mut table = vec![in alloc; NO_CONTEXT; count]?;
     table[body] = Context {
         reached: true,
         held: 0,
@@ -111,4 +93,51 @@ pub fn body_contexts(
     Ok(Contexts {
         table: List::from_vec(table),
     })
+}
+
+/// An access of a task: what the task holds there on each way of calls, and its least current priority.
+#[derive(Clone, Copy)]
+pub struct Use {
+    pub task: usize,
+    pub func: usize,
+    pub item: usize,
+    pub line: u32,
+    pub stores: bool,
+    pub held: u64,
+    pub least: u32,
+}
+
+fn add_uses(uses: &mut Vec<Use>, access: &Access, tasks: &[Contexts]) -> Result<()>
+    ensures { OnOk result (uses.new.items ≡ uses.old.items ++ uses_by access.now 0 tasks.now) }
+{
+    for (task, contexts) in tasks.iter().enumerate() {
+        let context = entry(contexts.table.items(), access.func, NO_CONTEXT);
+        let here = through(context, access.held);
+        let used = Use {
+            task,
+            func: access.func,
+            item: access.item,
+            line: access.line,
+            stores: access.stores,
+            held: here.held,
+            least: here.least,
+        };
+        if context.reached {
+            push(uses, used)?;
+        }
+    }
+    Ok(())
+}
+
+/// The uses of a symbol.
+pub fn uses(alloc: Global, accesses: &[Access], tasks: &[Contexts], symbol: u32) -> Result<Vec<Use>>
+    ensures { IfOk result (λ uses. uses.items ≡ uses_among tasks.now symbol accesses.now) }
+{
+    let mut uses = Vec::new(alloc);
+    for access in accesses {
+        if access.symbol == symbol {
+            add_uses(&mut uses, access, tasks)?;
+        }
+    }
+    Ok(uses)
 }

@@ -1,10 +1,11 @@
 //! What keeps higher users of a symbol out while lower ones use it.
 ghost use Rattle.std.specs.Prelude.{◌≡◌, ◌<◌, ◌==◌, ◌&&◌, ◌||◌, not, ℕ, Some, length, IfOk};
 ghost use Rattle.call_graph.specs.Bits.{is_member};
-ghost use Rattle.shares_text.specs.Computed.{is_under, IsNextUser, is_held_at_some, is_reaching, IsKeeperBy, AreKeepersBy, higher_of};
+ghost use Rattle.shares_text.specs.Computed.{is_under, IsNextUser, is_held_at_some, is_reaching, IsKeeperBy};
+ghost use Rattle.shares_text.specs.Computed.{AreKeepersBy, higher_of};
 
-use crate::data_uses::Use;
-use crate::sets::{common, with_resource};
+use crate::contexts::Use;
+use crate::verdict::{common, with_resource};
 use call_graph::{has, union};
 use sloth_base::{Result, TaskDecl};
 use std::alloc::Global;
@@ -18,7 +19,6 @@ pub struct Keeper {
     pub held: u64,
 }
 
-// Whether the priority is below the other one, if there is one.
 fn is_under(priority: u32, above: Option<u32>) -> bool
     ensures { result ≡ is_under priority above }
 {
@@ -28,25 +28,17 @@ fn is_under(priority: u32, above: Option<u32>) -> bool
     }
 }
 
-// The one of higher priority.
 fn higher_user(tasks: &[TaskDecl], best: Option<usize>, task: usize) -> Option<usize>
     requires inside { task < length tasks.now }
     requires best { (t : ℕ) → best ≡ Some t → t < length tasks.now }
     ensures { result ≡ higher_of tasks.now best task }
 {
     match best {
-        Some(other) => {
-            if tasks[task].priority > tasks[other].priority {
-                Some(task)
-            } else {
-                Some(other)
-            }
-        }
-        None => Some(task),
+        Some(other) if tasks[task].priority <= tasks[other].priority => Some(other),
+        _ => Some(task),
     }
 }
 
-// The user of highest priority below this one, if there is one.
 fn next_user(tasks: &[TaskDecl], users: u32, above: Option<u32>) -> Option<usize>
     requires { length tasks.now < 33 }
     ensures { IsNextUser tasks.now users above (length tasks.now) result }
@@ -60,7 +52,6 @@ fn next_user(tasks: &[TaskDecl], users: u32, above: Option<u32>) -> Option<usize
     best
 }
 
-// The resources whose ceilings reach the priority.
 fn reaching(ceilings: &[u32], priority: u32) -> u64
     ensures { (r : ℕ) → r < 64 → is_member result r ≡ is_reaching ceilings.now priority r }
 {
@@ -73,7 +64,6 @@ fn reaching(ceilings: &[u32], priority: u32) -> u64
     set
 }
 
-// The same, with what it holds at one use more.
 fn held_once_more(held: u64, used: &Use, task: usize) -> u64
     ensures { (r : ℕ) → is_member result r
         ≡ (is_member held r || ((used.now.task == task) && is_member used.now.held r)) }
@@ -85,7 +75,6 @@ fn held_once_more(held: u64, used: &Use, task: usize) -> u64
     }
 }
 
-// What the task holds on each way at some of its uses.
 fn held_at_some(uses: &[Use], task: usize) -> u64
     ensures { (r : ℕ) → is_member result r ≡ is_held_at_some uses.now task r }
 {
@@ -127,11 +116,8 @@ fn user_keeper(
         },
         Some(priority) => {
             let non = tasks[task].non;
-            Keeper {
-                task,
-                non,
-                held: held_below(ceilings, uses, task, priority, non),
-            }
+            let held = held_below(ceilings, uses, task, priority, non);
+            Keeper { task, non, held }
         },
     }
 }

@@ -1,4 +1,5 @@
-//! Laws of the definitions.
+//! Laws of the definitions, and of runs.
+ghost use Rattle.shares_text.specs.RunLaws.{RunsKeepSections, RunsKeepVerdicts};
 ghost use Rattle.shares_text.specs.SharesText.{OneText};
 ghost use Rattle.shares_text.specs.UnusedText.{OneUnusedText, SymbolsAgree};
 
@@ -15,4 +16,14 @@ pub fn one_unused_text()
 /// A symbol is used exactly where a task uses it in the sense of `shares`.
 pub fn symbols_agree()
     ensures { SymbolsAgree }
+{}
+
+/// Behind an event of a task no other task runs to whose priority it stays raised.
+pub fn runs_keep_sections()
+    ensures { RunsKeepSections }
+{}
+
+/// Every run of well-formed task code keeps what verdicts promise.
+pub fn runs_keep_verdicts()
+    ensures { RunsKeepVerdicts }
 {}

@@ -9,21 +9,15 @@
 #![tactic(auto)]
 
 pub mod contexts;
-pub mod data_uses;
-pub mod held;
 pub mod keepers;
-pub mod kinds;
 pub mod laws;
 mod lines;
 pub mod open_pairs;
-pub mod sets;
 pub mod sites;
 pub mod symbol_verdicts;
-mod text;
-mod unused;
+pub mod unused;
 mod uses;
 pub mod verdict;
-pub mod verdict_laws;
 
-pub use text::shares_text;
+pub use symbol_verdicts::shares_text;
 pub use unused::unused_text;

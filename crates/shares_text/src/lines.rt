@@ -2,7 +2,7 @@
 ghost use Rattle.std.specs.Prelude.{◌≡◌, ◌<◌, ◌≤◌, ◌++◌, [], length, drop, cond, OnOk, codes};
 ghost use Rattle.sloth_base.specs.Limits.{task_limit, ceiling_count};
 ghost use Rattle.call_graph.specs.Bits.{is_member};
-ghost use Rattle.shares_text.specs.SharesText.{task_word, resource_word, task_words, resource_words, has_below, under_words, keeper_words, further_keepers, keepers_words, pair_words, verdict_words};
+ghost use Rattle.shares_text.specs.SharesText.{task_word, resource_word, task_words, resource_words, has_below, under_words, keeper_words, further_keepers, keepers_words, verdict_words};
 
 use crate::keepers::Keeper;
 use crate::open_pairs::OpenPair;
@@ -12,21 +12,18 @@ use sloth_base::{Config, RES_SCHEDULER, Result};
 use text_pieces::line;
 use text_pieces::pieces::Piece::{Number, Word};
 
-// A space and a name.
 fn push_word(text: &mut Vec<u8>, name: &[u8]) -> Result<()>
     ensures { OnOk result (text.new.items ≡ text.old.items ++ (codes " " ++ name.now)) }
 {
     line!(text; Word(b" "), Word(name))
 }
 
-// A space and a task's name.
 fn push_task(text: &mut Vec<u8>, config: &Config, task: usize) -> Result<()>
     ensures { OnOk result (text.new.items ≡ text.old.items ++ task_word config.now task) }
 {
     push_word(text, config.task_name(task))
 }
 
-// The tasks of a set, by number.
 fn push_tasks(text: &mut Vec<u8>, config: &Config, set: u32) -> Result<()>
     requires { length config.now.tasks ≤ task_limit }
     ensures { OnOk result (text.new.items ≡ text.old.items ++ task_words config.now set) }
@@ -39,7 +36,6 @@ fn push_tasks(text: &mut Vec<u8>, config: &Config, set: u32) -> Result<()>
     Ok(())
 }
 
-// A space and its name, if the resource is of the set.
 fn push_member(text: &mut Vec<u8>, config: &Config, set: u64, resource: usize) -> Result<()>
     requires { resource < 64 }
     ensures { OnOk result (text.new.items ≡ text.old.items
@@ -51,7 +47,6 @@ fn push_member(text: &mut Vec<u8>, config: &Config, set: u64, resource: usize) -
     Ok(())
 }
 
-// The resources of a set, by number.
 fn push_resources(text: &mut Vec<u8>, config: &Config, set: u64) -> Result<()>
     ensures { OnOk result (text.new.items ≡ text.old.items ++ resource_words config.now set) }
 {
@@ -61,7 +56,6 @@ fn push_resources(text: &mut Vec<u8>, config: &Config, set: u64) -> Result<()>
     Ok(())
 }
 
-// Whether a resource is of the set.
 fn has_resource(set: u64) -> bool
     ensures { result ≡ has_below set ceiling_count }
 {
@@ -72,7 +66,6 @@ fn has_resource(set: u64) -> bool
     found
 }
 
-// The resources behind `under`, if there are any.
 fn push_under(text: &mut Vec<u8>, config: &Config, set: u64) -> Result<()>
     ensures { OnOk result (text.new.items ≡ text.old.items ++ under_words config.now set) }
 {
@@ -83,7 +76,6 @@ fn push_under(text: &mut Vec<u8>, config: &Config, set: u64) -> Result<()>
     Ok(())
 }
 
-// That it is not preemptable, where it is not.
 fn push_non(text: &mut Vec<u8>, non: bool) -> Result<()>
     ensures { OnOk result (text.new.items ≡ text.old.items ++ cond non (codes " NON") []) }
 {
@@ -93,7 +85,6 @@ fn push_non(text: &mut Vec<u8>, non: bool) -> Result<()>
     Ok(())
 }
 
-// A user, with what keeps those above it out.
 fn push_keeper(text: &mut Vec<u8>, config: &Config, keeper: &Keeper) -> Result<()>
     ensures { OnOk result (text.new.items ≡ text.old.items ++ keeper_words config.now keeper.now) }
 {
@@ -114,7 +105,6 @@ fn push_further(text: &mut Vec<u8>, config: &Config, list: &[Keeper]) -> Result<
     Ok(())
 }
 
-// Users, with commas between.
 fn push_keepers(text: &mut Vec<u8>, config: &Config, list: &[Keeper]) -> Result<()>
     ensures { OnOk result (text.new.items ≡ text.old.items ++ keepers_words config.now list.now) }
 {
@@ -123,16 +113,6 @@ fn push_keepers(text: &mut Vec<u8>, config: &Config, list: &[Keeper]) -> Result<
     }
     push_keeper(text, config, &list[0])?;
     push_further(text, config, list)
-}
-
-// The tasks and lines of an open pair.
-fn push_pair(text: &mut Vec<u8>, config: &Config, pair: &OpenPair) -> Result<()>
-    ensures { OnOk result (text.new.items ≡ text.old.items ++ pair_words config.now pair.now) }
-{
-    let low = config.task_name(pair.low);
-    let high = config.task_name(pair.high);
-    line!(text; Word(b" "), Word(low), Word(b" "), Number(pair.low_line), Word(b" "), Word(high),
-        Word(b" "), Number(pair.high_line))
 }
 
 /// A verdict.
@@ -156,8 +136,10 @@ pub fn push_verdict(text: &mut Vec<u8>, config: &Config, verdict: &Verdict) -> R
             push_keepers(text, config, list.items())
         }
         Verdict::Open(pair) => {
+            let (low, high) = (config.task_name(pair.low), config.task_name(pair.high));
             text.extend_from_slice(b" open")?;
-            push_pair(text, config, pair)
+            line!(text; Word(b" "), Word(low), Word(b" "), Number(pair.low_line), Word(b" "),
+                Word(high), Word(b" "), Number(pair.high_line))
         }
     }
 }

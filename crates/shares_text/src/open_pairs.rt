@@ -1,10 +1,11 @@
 //! Open pairs: accesses of two tasks, one a store, between which nothing keeps the higher task out.
 ghost use Rattle.std.specs.Prelude.{◌≡◌, None, IfOk};
 ghost use Rattle.shares_text.specs.Verdicts.{is_before};
-ghost use Rattle.shares_text.specs.Computed.{no_firsts, least_line, firsts_with, firsts_of, high_line, pair_of, first_of, first_pair, first_pairs, AreFirsts, IsPairBy};
+ghost use Rattle.shares_text.specs.Computed.{no_firsts, least_line, firsts_with, firsts_of, high_line, pair_of};
+ghost use Rattle.shares_text.specs.Computed.{first_of, first_pair, first_pairs, AreFirsts, IsPairBy};
 
-use crate::data_uses::Use;
-use crate::sets::entry;
+use crate::contexts::Use;
+use crate::verdict::entry;
 use sloth_base::{Result, TaskDecl};
 use std::alloc::Global;
 use text_pieces::push;
@@ -30,7 +31,6 @@ const NO_FIRSTS: Firsts = Firsts {
     store: None,
 };
 
-// The lesser of these lines.
 fn least_line(least: Option<u32>, line: u32) -> Option<u32>
     ensures { result ≡ least_line least line }
 {
@@ -53,7 +53,6 @@ fn lesser_firsts(firsts: Firsts, used: &Use) -> Firsts
     }
 }
 
-// Those of a task.
 fn task_firsts(uses: &[Use], task: usize) -> Firsts
     ensures { result ≡ firsts_of task no_firsts uses.now }
 {
@@ -87,22 +86,18 @@ fn high_line(firsts: Firsts, low_stores: bool) -> Option<u32>
     }
 }
 
-// The pair of this use with the higher task, if it is open.
 fn use_pair(low: &Use, high: usize, priority: u32, firsts: Firsts) -> Option<OpenPair>
     ensures { result ≡ pair_of low.now high priority firsts }
 {
     if priority <= low.least {
         return None;
     }
-    match high_line(firsts, low.stores) {
-        Some(line) => Some(OpenPair {
-            low: low.task,
-            low_line: low.line,
-            high,
-            high_line: line,
-        }),
-        None => None,
-    }
+    Some(OpenPair {
+        low: low.task,
+        low_line: low.line,
+        high,
+        high_line: high_line(firsts, low.stores)?,
+    })
 }
 
 // Whether the pair stands before another one: by the lines, then by the tasks.
@@ -121,24 +116,17 @@ fn is_before(one: &OpenPair, other: &OpenPair) -> bool
     one.high < other.high
 }
 
-// The one that stands before the other, if there are two.
 fn earlier_pair(one: Option<OpenPair>, other: Option<OpenPair>) -> Option<OpenPair>
     ensures { result ≡ first_of one other }
 {
     match (one, other) {
         (None, pair) => pair,
         (Some(one), None) => Some(one),
-        (Some(one), Some(other)) => {
-            if is_before(&other, &one) {
-                Some(other)
-            } else {
-                Some(one)
-            }
-        }
+        (Some(one), Some(other)) if is_before(&other, &one) => Some(other),
+        (Some(one), Some(_)) => Some(one),
     }
 }
 
-// The first of the pairs of this use, if one is open.
 fn first_pair(
     tasks: &[TaskDecl],
     firsts: &[Firsts],

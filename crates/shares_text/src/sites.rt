@@ -1,15 +1,20 @@
 //! The items of all functions that call a function or use a symbol, with what their own function holds there.
 //! Calls in an order in which those of callers stand first.
-ghost use Rattle.std.specs.Prelude.{◌≡◌, ◌<◌, ◌++◌, get_or, length, OnOk, IfOk, filter};
+//! What a function itself holds before each of its items: the resources, and their greatest ceiling.
+ghost use Rattle.std.specs.Prelude.{◌≡◌, ◌<◌, ◌++◌, get_or, length, OnOk, IfOk, filter, ◌≤◌, ◌+◌, ℕ, None};
 ghost use Rattle.shares_text.specs.Accesses.{symbol_of, is_store};
-ghost use Rattle.shares_text.specs.Sites.{call_at, access_at, gather_items, gather, no_row, is_of_rank, down_from};
+ghost use Rattle.shares_text.specs.Sites.{call_at, call_of, access_at, gather_items, gather, no_row, is_of_rank, down_from, IsHeld, AreHeld, AreAllHeld};
 ghost use Rattle.osek_scheduler.specs.Priority.{greatest};
+ghost use Rattle.code_rules.specs.WellFormed.{WellFormed};
+ghost use Rattle.task_verify.specs.Labels.{last_label_below};
+ghost use Rattle.walk_sums.specs.Ceilings.{AreResourceCeilings};
 
-use crate::held::{Held, HeldRow};
-use crate::sets::entry;
-use sloth_base::{Func, Item, Op, Result};
+use crate::verdict::{entry, resource_set};
+use sloth_base::{App, Config, Func, Item, List, Op, Result};
 use std::alloc::Global;
+use task_verify::{held_after, held_at_label, last_labels};
 use text_pieces::push;
+use walk_sums::greatest_ceiling;
 
 /// A call, with what its function holds there.
 #[derive(Clone, Copy)]
@@ -36,10 +41,8 @@ pub fn accessed_symbol(op: Op) -> Option<u32>
     ensures { result ≡ symbol_of op }
 {
     match op {
-        Op::Load { symbol, .. } => Some(symbol.0),
-        Op::Store { symbol, .. } => Some(symbol.0),
-        Op::LoadAt { symbol, .. } => Some(symbol.0),
-        Op::StoreAt { symbol, .. } => Some(symbol.0),
+        Op::Load { symbol, .. } | Op::LoadAt { symbol, .. } => Some(symbol.0),
+        Op::Store { symbol, .. } | Op::StoreAt { symbol, .. } => Some(symbol.0),
         _ => None,
     }
 }
@@ -53,22 +56,15 @@ pub fn is_store(op: Op) -> bool
 
 const NOTHING_HELD: Held = Held { members: 0, top: 0 };
 
-// One more call, if the item is one.
-fn add_call(
-    calls: &mut Vec<CallSite>,
-    caller: usize,
-    number: usize,
-    item: &Item,
-    held: Held,
-) -> Result<()>
-    ensures { OnOk result (calls.new.items ≡ calls.old.items ++ call_at caller number item.now held) }
+fn add_call(list: &mut Vec<CallSite>, caller: usize, item: usize, op: Op, held: Held) -> Result<()>
+    ensures { OnOk result (list.new.items ≡ list.old.items ++ call_of caller item op held) }
 {
-    match item.op {
+    match op {
         Op::Invoke { func } => push(
-            calls,
+            list,
             CallSite {
                 caller,
-                item: number,
+                item,
                 callee: func.0 as usize,
                 held,
             },
@@ -77,22 +73,15 @@ fn add_call(
     }
 }
 
-// One more access, if the item is one.
-fn add_access(
-    accesses: &mut Vec<Access>,
-    func: usize,
-    number: usize,
-    item: &Item,
-    held: Held,
-) -> Result<()>
-    ensures { OnOk result (accesses.new.items ≡ accesses.old.items ++ access_at func number item.now held) }
+fn add_access(list: &mut Vec<Access>, func: usize, at: usize, item: &Item, held: Held) -> Result<()>
+    ensures { OnOk result (list.new.items ≡ list.old.items ++ access_at func at item.now held) }
 {
     match accessed_symbol(item.op) {
         Some(symbol) => push(
-            accesses,
+            list,
             Access {
                 func,
-                item: number,
+                item: at,
                 line: item.line,
                 symbol,
                 stores: is_store(item.op),
@@ -103,30 +92,23 @@ fn add_access(
     }
 }
 
-// The calls of a function.
 fn add_calls(calls: &mut Vec<CallSite>, caller: usize, items: &[Item], rows: &[Held]) -> Result<()>
     ensures { OnOk result (calls.new.items ≡ calls.old.items ++ gather_items call_at caller 0 items.now rows.now) }
 {
     for (number, item) in items.iter().enumerate() {
         let held = entry(rows, number, NOTHING_HELD);
-        add_call(calls, caller, number, item, held)?;
+        add_call(calls, caller, number, item.op, held)?;
     }
     Ok(())
 }
 
-// Its accesses.
-fn add_accesses(
-    accesses: &mut Vec<Access>,
-    func: usize,
-    items: &[Item],
-    rows: &[Held],
-) -> Result<()>
-    ensures { OnOk result (accesses.new.items ≡ accesses.old.items
+fn add_accesses(list: &mut Vec<Access>, func: usize, items: &[Item], rows: &[Held]) -> Result<()>
+    ensures { OnOk result (list.new.items ≡ list.old.items
         ++ gather_items access_at func 0 items.now rows.now) }
 {
     for (number, item) in items.iter().enumerate() {
         let held = entry(rows, number, NOTHING_HELD);
-        add_access(accesses, func, number, item, held)?;
+        add_access(list, func, number, item, held)?;
     }
     Ok(())
 }
@@ -164,7 +146,6 @@ pub fn all_accesses(alloc: Global, funcs: &[Func], table: &[HeldRow]) -> Result<
     Ok(accesses)
 }
 
-// The greatest rank.
 fn greatest_rank(ranks: &[u32]) -> u32
     ensures { result ≡ greatest ranks.now }
 {
@@ -175,18 +156,12 @@ fn greatest_rank(ranks: &[u32]) -> u32
     top
 }
 
-// The calls of callers of this rank.
-fn push_rank(
-    ordered: &mut Vec<CallSite>,
-    ranks: &[u32],
-    calls: &[CallSite],
-    rank: u32,
-) -> Result<()>
-    ensures { OnOk result (ordered.new.items ≡ ordered.old.items ++ filter (is_of_rank ranks.now rank) calls.now) }
+fn push_rank(list: &mut Vec<CallSite>, ranks: &[u32], calls: &[CallSite], rank: u32) -> Result<()>
+    ensures { OnOk result (list.new.items ≡ list.old.items ++ filter (is_of_rank ranks.now rank) calls.now) }
 {
     for call in calls {
         if entry(ranks, call.caller, 0) == rank {
-            push(ordered, *call)?;
+            push(list, *call)?;
         }
     }
     Ok(())
@@ -209,4 +184,68 @@ pub fn callers_first(alloc: Global, ranks: &[u32], calls: &[CallSite]) -> Result
     let mut ordered = Vec::new(alloc);
     push_down(&mut ordered, ranks, calls, greatest_rank(ranks))?;
     Ok(ordered)
+}
+
+/// Resources, and the greatest of their ceilings, 0 where there is none.
+#[derive(Clone, Copy)]
+pub struct Held {
+    pub members: u64,
+    pub top: u32,
+}
+
+/// What is held before each item of a function.
+#[derive(Drop)]
+pub struct HeldRow {
+    pub items: List<Held>,
+}
+
+fn listed_held(config: &Config, table: &[u32], held: &[u32]) -> Held
+    requires { AreResourceCeilings config.now table.now }
+    ensures { IsHeld config.now held.now result }
+{
+    Held {
+        members: resource_set(held),
+        top: greatest_ceiling(config, table, held),
+    }
+}
+
+// By the last label at each place.
+fn held_rows(
+    alloc: Global,
+    config: &Config,
+    table: &[u32],
+    func: &Func,
+    last: &[Option<usize>],
+) -> Result<Vec<Held>>
+    requires table { AreResourceCeilings config.now table.now }
+    requires count { length last.now ≡ length func.now.items + 1 }
+    requires lasts { (place : ℕ) → place ≤ length func.now.items
+        → get_or last.now place None ≡ last_label_below func.now.labels place (length func.now.labels) }
+    ensures { IfOk result (λ rows. AreHeld config.now func.now rows.items) }
+{
+    let mut rows = Vec::new(alloc);
+    let mut held = Vec::new(alloc);
+    for number in 0..func.items.items().len() {
+        let entered = held_at_label(alloc, func, last[number], held)?;
+        push(&mut rows, listed_held(config, table, &entered))?;
+        held = held_after(entered, func.items.items()[number].op)?;
+    }
+    Ok(rows)
+}
+
+/// What each function itself holds before each of its items.
+pub fn all_held(alloc: Global, config: &Config, table: &[u32], app: &App) -> Result<Vec<HeldRow>>
+    requires well_formed { WellFormed config.now app.now }
+    requires table { AreResourceCeilings config.now table.now }
+    ensures { IfOk result (λ rows. AreAllHeld config.now app.now rows.items) }
+{
+    let mut rows = Vec::new(alloc);
+    for number in 0..app.funcs.items().len() {
+        let func = app.function(number);
+        let last = last_labels(alloc, func)?;
+        let row = held_rows(alloc, config, table, func, &last)?;
+        let items = List::from_vec(row);
+        push(&mut rows, HeldRow { items })?;
+    }
+    Ok(rows)
 }

@@ -1,17 +1,8 @@
-//! Data that tasks share, and what keeps their accesses apart.
-//!
-//! `data_verdicts` tells of each symbol exactly whether no task uses it, one alone, or all only load it; else the
-//! resources that are held at each use; else that each lower user keeps the higher ones out, or the first pair of uses
-//! of which the higher one may come between (clause `exact`). In every run of the abstract scheduler a guarded symbol
-//! is used by one task within a holding of its guard, and of an ordered one each lower user is raised to the higher
-//! ones (clause `kept`, `verdict_laws`). Uses, ways of calls, what is held on them: `specs/Accesses`; verdicts:
-//! `specs/Verdicts`; runs: `specs/RunLaws`.
-//!
-//! What each function itself holds (`held`), items that call or use a symbol (`sites`, `specs/Sites`), callers' calls
-//! first (`call_order`); what is known as a task enters a function (`contexts`, `specs/Contexts`); a symbol's uses
-//! (`data_uses`), and what they tell (`specs/Computed`, `specs/VerdictsBy`). Positions: `osek_blocking` (`Sections`).
-ghost use Rattle.std.specs.Prelude.{◌≡◌, ◌<◌, [], length, IfOk};
-ghost use Rattle.sloth_base.specs.Limits.{ceiling_count};
+//! Data that tasks share, and what keeps their accesses apart: exact verdicts on all symbols, which runs keep
+//! (`data_verdicts`). Uses: `specs/Accesses`; verdicts: `specs/Verdicts`; what they promise of runs: `specs/RunLaws`.
+//! The lines of all symbols, from the texts.
+ghost use Rattle.std.specs.Prelude.{◌≡◌, ◌<◌, [], length, IfOk, ◌≤◌, ◌++◌, codes, get_or, IfErr, OnOk};
+ghost use Rattle.sloth_base.specs.Limits.{ceiling_count, task_limit};
 ghost use Rattle.sloth_base.specs.declared.app.App.{App as AnyApp};
 ghost use Rattle.code_rules.specs.WellFormed.{WellFormed};
 ghost use Rattle.osek_scheduler.specs.Priority.{highest_priority};
@@ -22,20 +13,23 @@ ghost use Rattle.walk_sums.specs.Ceilings.{AreResourceCeilings};
 ghost use Rattle.shares_text.specs.Tables.{AreAccesses, AreCalls, AreAllContexts};
 ghost use Rattle.shares_text.specs.Verdicts.{AreVerdicts};
 ghost use Rattle.shares_text.specs.RunLaws.{RunsKeepApart};
+ghost use Rattle.sloth_source.specs.Texts.{SourcesErrorIs};
+ghost use Rattle.shares_text.specs.SharesText.{IsSharesText, verdict_words, share_lines};
 
-use crate::contexts::{Contexts, body_contexts};
-use crate::data_uses::symbol_uses;
-use crate::held::{HeldRow, all_held};
-use crate::sites::{Access, CallSite, all_accesses, all_calls, callers_first};
-use crate::verdict::{Verdict, uses_verdict};
+use crate::contexts::{Contexts, body_contexts, uses};
+use crate::lines::push_verdict;
+use crate::sites::{Access, CallSite, HeldRow, all_accesses, all_calls, all_held, callers_first};
+use crate::verdict::{Verdict, judge};
 use call_graph::Ranks;
 use osek_scheduler::highest;
-use sloth_base::{App, Config, List, Result};
+use sloth_base::{App, BuildError, Config, List, Result};
+use sloth_source::read_checked;
 use stack_bounds::body_of;
 use std::alloc::Global;
 use task_verify::Verified;
-use text_pieces::push;
-use walk_sums::ceilings::ceilings;
+use text_pieces::pieces::Piece::Word;
+use text_pieces::{line, push};
+use walk_sums::bodies::ceilings;
 
 // The current priority of a task that holds nothing.
 fn base_priority(config: &Config, highest: u32, task: usize) -> u32
@@ -52,12 +46,7 @@ fn base_priority(config: &Config, highest: u32, task: usize) -> u32
 }
 
 // The contexts of all tasks.
-fn all_contexts(
-    alloc: Global,
-    config: &Config,
-    app: &App,
-    calls: &[CallSite],
-) -> Result<Vec<Contexts>>
+fn all_ways(alloc: Global, config: &Config, app: &App, calls: &[CallSite]) -> Result<Vec<Contexts>>
     requires well_formed { WellFormed config.now app.now }
     requires calls { AreCalls config.now app.now calls.now }
     ensures { IfOk result (λ tasks. AreAllContexts config.now app.now tasks.items) }
@@ -74,7 +63,6 @@ fn all_contexts(
     Ok(tasks)
 }
 
-// The verdicts of all symbols.
 fn verdicts(
     alloc: Global,
     config: &Config,
@@ -92,14 +80,13 @@ fn verdicts(
 {
     let mut list = Vec::new(alloc);
     for symbol in 0..app.symbols.items().len() {
-        let uses = symbol_uses(alloc, accesses, tasks, symbol as u32)?;
-        let verdict = uses_verdict(alloc, config.tasks.items(), ceilings, &uses)?;
+        let uses = uses(alloc, accesses, tasks, symbol as u32)?;
+        let verdict = judge(alloc, config.tasks.items(), ceilings, &uses)?;
         push(&mut list, verdict)?;
     }
     Ok(list)
 }
 
-// By what is held in each function.
 fn code_verdicts(
     alloc: Global,
     config: &Config,
@@ -119,7 +106,7 @@ fn code_verdicts(
     let calls = all_calls(alloc, funcs, table)?;
     let ordered = callers_first(alloc, ranks.rank.items(), &calls)?;
     let accesses = all_accesses(alloc, funcs, table)?;
-    let tasks = all_contexts(alloc, config, app, &ordered)?;
+    let tasks = all_ways(alloc, config, app, &ordered)?;
     verdicts(alloc, config, app, ceilings, &accesses, &tasks)
 }
 
@@ -135,4 +122,49 @@ pub fn data_verdicts(alloc: Global, verified: &Verified, ranks: &Ranks) -> Resul
     let table = all_held(alloc, config, &ceilings, app)?;
     let list = code_verdicts(alloc, config, app, ranks, &ceilings, &table)?;
     Ok(List::from_vec(list))
+}
+
+fn numbered_verdict(verdicts: &[Verdict], number: usize) -> &Verdict
+    requires { number < length verdicts.now }
+    ensures { result.now ≡ get_or verdicts.now number Verdict.Unused }
+{
+    &verdicts[number]
+}
+
+fn push_line(text: &mut Vec<u8>, config: &Config, name: &[u8], verdict: &Verdict) -> Result<()>
+    requires { length config.now.tasks ≤ task_limit }
+    ensures { OnOk result (text.new.items ≡ text.old.items
+        ++ ((name.now ++ verdict_words config.now verdict.now) ++ codes "\n")) }
+{
+    text.extend_from_slice(name)?;
+    push_verdict(text, config, verdict)?;
+    line!(text; Word(b"\n"))
+}
+
+fn share_lines(alloc: Global, config: &Config, app: &App, verdicts: &[Verdict]) -> Result<Vec<u8>>
+    requires few { length config.now.tasks ≤ task_limit }
+    requires same { length verdicts.now ≡ length app.now.symbols }
+    ensures { IfOk result (λ text. text.items ≡ share_lines config.now app.now verdicts.now (length app.now.symbols)) }
+{
+    let mut text = Vec::new(alloc);
+    for number in 0..app.symbols.items().len() {
+        let verdict = numbered_verdict(verdicts, number);
+        push_line(&mut text, config, app.symbol_name(number), verdict)?;
+    }
+    Ok(text)
+}
+
+/// The lines of what keeps the users of each symbol apart, of texts of at most 4,294,967,294 bytes; or the first
+/// refusal (O1 to O15, A1 to A7, V1 to V12).
+pub fn shares_text(alloc: Global, oil: &[u8], src: &[u8]) -> Result<Vec<u8>, BuildError>
+    requires oil { length oil.now < 4294967295 }
+    requires src { length src.now < 4294967295 }
+    ensures text { IfOk result (λ text. IsSharesText oil.now src.now text.items) }
+    ensures refused { IfErr result (SourcesErrorIs oil.now src.now) }
+{
+    let checked = read_checked(alloc, oil, src)?;
+    let verified = &checked.verified;
+    let verdicts = data_verdicts(alloc, verified, &checked.ranks)?;
+    let text = share_lines(alloc, verified.config(), verified.app(), verdicts.items())?;
+    Ok(text)
 }

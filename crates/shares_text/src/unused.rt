@@ -1,18 +1,16 @@
 //! The lines of what nothing uses, from the texts.
-ghost use Rattle.std.specs.Prelude.{◌≡◌, ◌<◌, ◌≤◌, ◌++◌, cond, [], length, IfOk, IfErr, OnOk};
+//! What may be used: the objects of a configuration, and the data and functions of its task code.
+ghost use Rattle.std.specs.Prelude.{◌≡◌, ◌<◌, ◌≤◌, ◌++◌, length, IfOk, IfErr, OnOk};
 ghost use Rattle.sloth_base.specs.Limits.{task_limit};
-ghost use Rattle.call_graph.specs.Ranks.{RanksOf};
 ghost use Rattle.sloth_source.specs.Texts.{SourcesErrorIs};
-ghost use Rattle.shares_text.specs.UnusedText.{kind_word, object_name, further_words, unused_line, lines_of, unused_lines, HasUnused, IsUnusedText};
+ghost use Rattle.shares_text.specs.UnusedText.{kind_word, object_name, further_words, unused_line, lines_of, unused_lines, IsUnusedText, count_of};
 ghost use Rattle.shares_text.specs.UsesBy.{is_used_by};
+ghost use Rattle.shares_text.specs.Uses.{event_mask};
 
-use crate::kinds::{Kind, kind_count, kind_word, object_name};
 use crate::uses::is_used;
-use call_graph::Ranks;
 use sloth_base::{App, BuildError, Config, Result};
 use sloth_source::read_checked;
 use std::alloc::Global;
-use task_verify::Verified;
 use text_pieces::line;
 use text_pieces::pieces::Piece::{Number, Word};
 
@@ -41,67 +39,31 @@ fn push_line<'t>(
     line!(text; Word(b"\n"))
 }
 
-// The line, unless it is used.
-fn push_unless(
-    text: &mut Vec<u8>,
-    config: &Config,
-    app: &App,
-    used: bool,
-    kind: Kind,
-    number: usize,
-) -> Result<()>
-    ensures { OnOk result (text.new.items ≡ text.old.items
-        ++ cond used [] (unused_line config.now app.now kind number)) }
-{
-    if !used {
-        push_line(text, config, app, kind, number)?;
-    }
-    Ok(())
-}
-
-// The lines of a kind.
-fn push_kind(
-    text: &mut Vec<u8>,
-    config: &Config,
-    app: &App,
-    users: &[u32],
-    kind: Kind,
-) -> Result<()>
+fn push_all(text: &mut Vec<u8>, config: &Config, app: &App, users: &[u32], kind: Kind) -> Result<()>
     requires { length config.now.tasks ≤ task_limit }
     ensures { OnOk result (text.new.items ≡ text.old.items
         ++ lines_of config.now app.now (is_used_by config.now app.now users.now) kind) }
 {
     for number in 0..kind_count(config, app, kind) {
-        let used = is_used(config, app, users, kind, number);
-        push_unless(text, config, app, used, kind, number)?;
+        if !is_used(config, app, users, kind, number) {
+            push_line(text, config, app, kind, number)?;
+        }
     }
     Ok(())
 }
 
-// The lines of all kinds.
 fn unused_lines(alloc: Global, config: &Config, app: &App, users: &[u32]) -> Result<Vec<u8>>
     requires { length config.now.tasks ≤ task_limit }
     ensures { IfOk result (λ text. text.items
         ≡ unused_lines config.now app.now (is_used_by config.now app.now users.now)) }
 {
     let mut text = Vec::new(alloc);
-    push_kind(&mut text, config, app, users, Kind::Task)?;
-    push_kind(&mut text, config, app, users, Kind::Resource)?;
-    push_kind(&mut text, config, app, users, Kind::Event)?;
-    push_kind(&mut text, config, app, users, Kind::Alarm)?;
-    push_kind(&mut text, config, app, users, Kind::Symbol)?;
-    push_kind(&mut text, config, app, users, Kind::Function)?;
-    Ok(text)
-}
-
-// The lines of task code that keeps all rules.
-fn answer_text(alloc: Global, verified: &Verified, ranks: &Ranks) -> Result<Vec<u8>, BuildError>
-    requires { RanksOf verified.now.app ranks.now }
-    ensures text { IfOk result (λ text. HasUnused verified.now.config verified.now.app text.items) }
-    ensures memory { IfErr result (λ error. error ≡ BuildError.Memory) }
-{
-    let users = ranks.users.items();
-    let text = unused_lines(alloc, verified.config(), verified.app(), users)?;
+    push_all(&mut text, config, app, users, Kind::Task)?;
+    push_all(&mut text, config, app, users, Kind::Resource)?;
+    push_all(&mut text, config, app, users, Kind::Event)?;
+    push_all(&mut text, config, app, users, Kind::Alarm)?;
+    push_all(&mut text, config, app, users, Kind::Symbol)?;
+    push_all(&mut text, config, app, users, Kind::Function)?;
     Ok(text)
 }
 
@@ -114,5 +76,79 @@ pub fn unused_text(alloc: Global, oil: &[u8], src: &[u8]) -> Result<Vec<u8>, Bui
     ensures refused { IfErr result (SourcesErrorIs oil.now src.now) }
 {
     let checked = read_checked(alloc, oil, src)?;
-    answer_text(alloc, &checked.verified, &checked.ranks)
+    let users = checked.ranks.users.items();
+    let text = unused_lines(
+        alloc,
+        checked.verified.config(),
+        checked.verified.app(),
+        users,
+    )?;
+    Ok(text)
+}
+
+/// A kind of things. Those of a kind have numbers from 0.
+#[derive(Clone, Copy)]
+pub enum Kind {
+    Task,
+    Resource,
+    Event,
+    Alarm,
+    Symbol,
+    Function,
+}
+
+/// Its word in a line.
+pub fn kind_word(kind: Kind) -> &'static [u8]
+    ensures { result.now ≡ kind_word kind }
+{
+    match kind {
+        Kind::Task => b"task",
+        Kind::Resource => b"resource",
+        Kind::Event => b"event",
+        Kind::Alarm => b"alarm",
+        Kind::Symbol => b"symbol",
+        Kind::Function => b"function",
+    }
+}
+
+/// How many there are of a kind.
+pub fn kind_count(config: &Config, app: &App, kind: Kind) -> usize
+    ensures { result ≡ count_of config.now app.now kind }
+{
+    match kind {
+        Kind::Task => config.tasks.items().len(),
+        Kind::Resource => config.resources.items().len(),
+        Kind::Event => config.events.items().len(),
+        Kind::Alarm => config.alarms.items().len(),
+        Kind::Symbol => app.symbols.items().len(),
+        Kind::Function => app.funcs.items().len(),
+    }
+}
+
+/// The name of one.
+pub fn object_name<'t>(config: &'t Config, app: &'t App, kind: Kind, number: usize) -> &'t [u8]
+    ensures { result.now ≡ object_name config.now app.now kind number }
+{
+    match kind {
+        Kind::Task => config.task_name(number),
+        Kind::Resource => match config.resources.items().get(number) {
+            Some(name) => name.bytes(),
+            None => b"",
+        },
+        Kind::Event => config.event_name(number),
+        Kind::Alarm => config.alarm_name(number),
+        Kind::Symbol => app.symbol_name(number),
+        Kind::Function => app.function_name(number),
+    }
+}
+
+/// The mask of an event.
+pub fn event_mask(config: &Config, number: usize) -> u32
+    ensures { result ≡ event_mask config.now number }
+{
+    config
+        .events
+        .items()
+        .get(number)
+        .map_or(0, |event| event.mask)
 }

@@ -1,12 +1,15 @@
-//! What keeps the users of one symbol apart.
-ghost use Rattle.std.specs.Prelude.{◌≡◌, ◌==◌, ◌<◌, true, length, IfOk};
+//! What keeps the users of one symbol apart. Sets of tasks and of resources as bits.
+ghost use Rattle.std.specs.Prelude.{◌≡◌, ◌==◌, ◌<◌, true, length, IfOk, ◌&&◌, ◌||◌, ltb, ℕ, get_or};
 ghost use Rattle.std.specs.List.{list_any, list_all};
-ghost use Rattle.shares_text.specs.VerdictsBy.{has_store, AreTasksOf, AreCommon, AreOfTwo, IsVerdictBy};
+ghost use Rattle.shares_text.specs.VerdictsBy.{AreTasksOf, AreCommon, AreOfTwo, IsVerdictBy};
+ghost use Rattle.sloth_base.specs.Limits.{ceiling_count};
+ghost use Rattle.code_rules.specs.Code.{is_in};
+ghost use Rattle.call_graph.specs.Bits.{is_member};
 
-use crate::data_uses::Use;
+use crate::contexts::Use;
 use crate::keepers::{Keeper, keepers};
 use crate::open_pairs::{OpenPair, open_pair};
-use crate::sets::{all_resources, common, with_task};
+use call_graph::rows;
 use sloth_base::{List, Result, TaskDecl};
 use std::alloc::Global;
 
@@ -59,7 +62,6 @@ fn guard_set(uses: &[Use]) -> u64
     guards
 }
 
-// The task of the first use.
 fn first_user(uses: &[Use]) -> usize
     requires { 0 < length uses.now }
     ensures { list_any (λ u. u.task == result) uses.now ≡ true }
@@ -68,12 +70,7 @@ fn first_user(uses: &[Use]) -> usize
 }
 
 // Of a symbol that some tasks share.
-fn shared_verdict(
-    alloc: Global,
-    tasks: &[TaskDecl],
-    ceilings: &[u32],
-    uses: &[Use],
-) -> Result<Verdict>
+fn shared(alloc: Global, tasks: &[TaskDecl], ceilings: &[u32], uses: &[Use]) -> Result<Verdict>
     requires few { length tasks.now < 33 }
     requires two { AreOfTwo uses.now }
     ensures { IfOk result (IsVerdictBy tasks.now ceilings.now uses.now) }
@@ -93,12 +90,7 @@ fn shared_verdict(
 }
 
 /// The verdict by the uses of a symbol.
-pub fn uses_verdict(
-    alloc: Global,
-    tasks: &[TaskDecl],
-    ceilings: &[u32],
-    uses: &[Use],
-) -> Result<Verdict>
+pub fn judge(alloc: Global, tasks: &[TaskDecl], ceilings: &[u32], uses: &[Use]) -> Result<Verdict>
     requires { length tasks.now < 33 }
     ensures { IfOk result (IsVerdictBy tasks.now ceilings.now uses.now) }
 {
@@ -109,5 +101,59 @@ pub fn uses_verdict(
     if is_of_one(uses, first) {
         return Ok(Verdict::One(first));
     }
-    shared_verdict(alloc, tasks, ceilings, uses)
+    shared(alloc, tasks, ceilings, uses)
+}
+
+/// The members of both.
+pub fn common(one: u64, other: u64) -> u64
+    ensures { (r : ℕ) → is_member result r ≡ (is_member one r && is_member other r) }
+{
+    one & other
+}
+
+/// The set with one member more, if it has room for it.
+pub fn with_resource(set: u64, resource: usize) -> u64
+    ensures { (r : ℕ) → r < 64 → is_member result r ≡ (is_member set r || (resource == r)) }
+{
+    if resource < 64 {
+        rows::with(set, resource as u32)
+    } else {
+        set
+    }
+}
+
+/// The same of a task.
+pub fn with_task(set: u32, task: usize) -> u32
+    ensures { (t : ℕ) → t < 32 → is_member result t ≡ (is_member set t || (task == t)) }
+{
+    if task < 32 {
+        rows::with_task(set, task as u32)
+    } else {
+        set
+    }
+}
+
+/// The resources of a list.
+pub fn resource_set(held: &[u32]) -> u64
+    ensures { (r : ℕ) → r < 64 → is_member result r ≡ is_in r held.now }
+{
+    let mut set = 0;
+    for resource in held {
+        set = with_resource(set, *resource as usize);
+    }
+    set
+}
+
+/// All resources, RES_SCHEDULER behind the others.
+pub fn all_resources() -> u64
+    ensures { (r : ℕ) → is_member result r ≡ ltb r ceiling_count }
+{
+    0x1_ffff_ffff
+}
+
+/// What stands at a place of a table; `none` behind its end.
+pub fn entry<T: Copy>(table: &[T], place: usize, none: T) -> T
+    ensures { result ≡ get_or table.now place none }
+{
+    table.get(place).copied().unwrap_or(none)
 }

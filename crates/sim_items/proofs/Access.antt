@@ -7,7 +7,7 @@ use Rattle.sloth_base.specs.declared.app.Width.{Width}
 use Rattle.sloth_base.specs.declared.app.Width.TheVariants as width
 use Rattle.sloth_base.specs.Machine.{Core}
 use Rattle.sloth_base.specs.MemoryMap.{memory_base, memory_bytes}
-use Rattle.rv32_instr.specs.declared.effect.Effect.TheVariants.{Load, Store}
+use Rattle.rv32_instr.specs.declared.encoding.Effect.TheVariants.{Load, Store}
 use Rattle.rv32_instr.specs.Access.{load, store}
 use Rattle.rv32_instr.specs.Ram.{half_at, word_at, with_half, with_word}
 use Rattle.rv32_instr.specs.Memory.{memory_of, with_memory, refusal, loaded_number, stored_memory}

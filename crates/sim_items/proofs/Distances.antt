@@ -9,7 +9,7 @@ use Rattle.sloth_base.specs.Machine.{Core}
 use Rattle.sloth_base.specs.declared.app.BranchKind.{BranchKind}
 use Rattle.sloth_base.specs.declared.app.BranchKind.TheVariants as branch
 use Rattle.rv32_instr.specs.declared.InstrKind.{InstrKind}
-use Rattle.rv32_instr.specs.declared.effect.Effect.TheVariants.{Branch}
+use Rattle.rv32_instr.specs.declared.encoding.Effect.TheVariants.{Branch}
 use Rattle.rv32_instr.specs.Effect.{effect}
 use Rattle.rv32_instr.specs.Execute.{Going, next_at_target}
 use Rattle.rv32_expand.specs.Expansion.{item_address, is_long, distance, test, opposite, expansion}

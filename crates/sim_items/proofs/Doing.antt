@@ -15,7 +15,7 @@ use Rattle.code_rules.specs.AppRange.{IsRegister}
 use Rattle.sloth_base.specs.MemoryMap.{memory_base}
 use Rattle.rv32_instr.specs.declared.InstrKind.{InstrKind}
 use Rattle.rv32_instr.specs.declared.InstrKind.TheVariants.{Lui, Addi, Lw, Sw}
-use Rattle.rv32_instr.specs.declared.effect.Effect.TheVariants.{Write}
+use Rattle.rv32_instr.specs.declared.encoding.Effect.TheVariants.{Write}
 use Rattle.rv32_instr.specs.Access.{load, store}
 use Rattle.rv32_instr.specs.Effect.{effect}
 use Rattle.rv32_instr.specs.Execute.{perform, touched_line_by, next_behind, with_register}

@@ -15,7 +15,7 @@ use Rattle.code_rules.specs.AppRange.{IsRegister}
 use Rattle.sloth_base.specs.MemoryMap.{memory_bytes, memory_base}
 use Rattle.rv32_instr.specs.declared.InstrKind.{InstrKind}
 use Rattle.rv32_instr.specs.declared.InstrKind.TheVariants.{Lui, Addi, Jal, Jalr}
-use Rattle.rv32_instr.specs.declared.effect.Effect.TheVariants.{Branch, Write}
+use Rattle.rv32_instr.specs.declared.encoding.Effect.TheVariants.{Branch, Write}
 use Rattle.rv32_instr.specs.Effect.{effect}
 use Rattle.rv32_instr.specs.Execute.{Going, perform, touched_line_by, next_at_target}
 use Rattle.masked_code.specs.Place.{offset_state}

@@ -8,7 +8,7 @@ use Rattle.sloth_base.specs.declared.app.App.{App}
 use Rattle.sloth_base.specs.declared.app.Op.TheVariants as op
 use Rattle.sloth_base.specs.declared.app.Width.{Width}
 use Rattle.sloth_base.specs.declared.app.Width.TheVariants as width
-use Rattle.sloth_base.specs.declared.places.Places.{Places}
+use Rattle.sloth_base.specs.declared.limits.Places.{Places}
 use Rattle.rv32_instr.specs.Access.{load, store}
 use Rattle.masked_code.proofs.Parts.{hi_lo}
 use Rattle.rv32_expand.specs.FarAccesses.{far_indexed, wide}

@@ -16,7 +16,7 @@ use Rattle.rv32_instr.specs.Encode.{Encode}
 use Rattle.rv32_instr.specs.Execute.{Going, step, touched, touched_line_by, perform, next_at_target}
 use Rattle.rv32_instr.specs.declared.InstrKind.{InstrKind}
 use Rattle.rv32_instr.specs.declared.InstrKind.TheVariants.{Lui, Addi, Jal}
-use Rattle.rv32_instr.specs.declared.effect.Effect.TheVariants.{Write}
+use Rattle.rv32_instr.specs.declared.encoding.Effect.TheVariants.{Write}
 use Rattle.masked_code.specs.Place.{offset_state}
 use Rattle.masked_code.proofs.Machine.{jump_at}
 use Rattle.masked_code.proofs.Parts.{hi_lo}

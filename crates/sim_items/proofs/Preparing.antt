@@ -13,7 +13,7 @@ use Rattle.sloth_base.specs.MemoryMap.{memory_bytes, memory_base}
 use Rattle.rv32_instr.specs.Access.{load, store}
 use Rattle.rv32_instr.specs.declared.InstrKind.{InstrKind}
 use Rattle.rv32_instr.specs.declared.InstrKind.TheVariants.{Lui, Addi, Andi, Add, And}
-use Rattle.rv32_instr.specs.declared.effect.Effect.TheVariants.{Write}
+use Rattle.rv32_instr.specs.declared.encoding.Effect.TheVariants.{Write}
 use Rattle.rv32_instr.specs.Effect.{effect}
 use Rattle.rv32_instr.specs.Execute.{Going, perform, touched_line_by, next_behind}
 use Rattle.masked_code.specs.Place.{offset_state}

@@ -13,7 +13,7 @@ use Rattle.sloth_base.specs.declared.app.ImmKind.{ImmKind}
 use Rattle.sloth_base.specs.declared.app.ImmKind.TheVariants as imm
 use Rattle.sloth_base.specs.Arithmetic.{register_result, number_result, complement, signed}
 use Rattle.code_rules.specs.AppRange.{IsRegister, IsShort, IsNumberOf}
-use Rattle.rv32_instr.specs.declared.effect.Effect.TheVariants.{Write}
+use Rattle.rv32_instr.specs.declared.encoding.Effect.TheVariants.{Write}
 use Rattle.rv32_instr.specs.Effect.{effect}
 use Rattle.rv32_instr.proofs.Words.{signed_pos, signed_neg}
 use Rattle.rv32_expand.specs.Expansion.{register_operation, number_operation}

@@ -12,13 +12,13 @@ use Rattle.sloth_base.specs.Arrive.{state_arrive}
 use Rattle.sloth_base.specs.Take.{line_to_take, entry_state, execution_state}
 use Rattle.sloth_base.specs.MemoryMap.{memory_base, controller_base}
 use Rattle.rv32_instr.specs.declared.csr.TheConstants.{MSTATUS, MSCRATCH, MEPC, ILEVEL, PLEVEL}
-use Rattle.rv32_instr.specs.declared.effect.Bad.{Bad}
-use Rattle.rv32_instr.specs.declared.effect.Bad.TheVariants as bad
-use Rattle.rv32_instr.specs.declared.effect.Stop.TheVariants as stop
-use Rattle.rv32_instr.specs.declared.effect.Change.{Change}
-use Rattle.rv32_instr.specs.declared.effect.Change.TheVariants.{Keep, Replace, Set, Clear}
-use Rattle.rv32_instr.specs.declared.effect.Effect.{Effect}
-use Rattle.rv32_instr.specs.declared.effect.Effect.TheVariants.{Nothing, Write, Branch, Jump, Load, Store, Csr, Environment, Return}
+use Rattle.rv32_instr.specs.declared.encoding.Bad.{Bad}
+use Rattle.rv32_instr.specs.declared.encoding.Bad.TheVariants as bad
+use Rattle.rv32_instr.specs.declared.encoding.Stop.TheVariants as stop
+use Rattle.rv32_instr.specs.declared.encoding.Change.{Change}
+use Rattle.rv32_instr.specs.declared.encoding.Change.TheVariants.{Keep, Replace, Set, Clear}
+use Rattle.rv32_instr.specs.declared.encoding.Effect.{Effect}
+use Rattle.rv32_instr.specs.declared.encoding.Effect.TheVariants.{Nothing, Write, Branch, Jump, Load, Store, Csr, Environment, Return}
 use Rattle.rv32_instr.specs.declared.InstrKind.{InstrKind}
 use Rattle.rv32_instr.specs.Encode.{Encode}
 use Rattle.rv32_instr.specs.Table.{Decode}

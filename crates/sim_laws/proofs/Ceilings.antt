@@ -7,7 +7,7 @@ use Rattle.sloth_base.specs.declared.app.Call.{Call}
 use Rattle.sloth_base.specs.declared.app.Op.TheVariants as op
 use Rattle.sloth_base.specs.declared.config.Config.{Config}
 use Rattle.sloth_base.specs.declared.config.TaskDecl.{TaskDecl}
-use Rattle.sloth_base.specs.declared.places.Levels.{Levels}
+use Rattle.sloth_base.specs.declared.limits.Levels.{Levels}
 use Rattle.sloth_base.specs.declared.service.Service.TheVariants as service
 use Rattle.sloth_base.specs.PriorityLevels.{level_among, level_of}
 use Rattle.sloth_base.specs.Limits.{ceiling_count}

@@ -97,7 +97,7 @@ use Rattle.service_gen.specs.Schedule.{way_back, IsScheduleCode}
 use Rattle.sim_laws.proofs.Ceilings.{may_have}
 use Rattle.std.specs.Prelude.{slice_index}
 use Rattle.service_gen.specs.TerminateTask.{IsTerminateTaskCode}
-use Rattle.sloth_base.specs.declared.places.Levels.{Levels}
+use Rattle.sloth_base.specs.declared.limits.Levels.{Levels}
 use Rattle.sloth_base.specs.declared.service.Service.{Service}
 use Rattle.sloth_base.specs.declared.service.Service.TheVariants as service
 use Rattle.sloth_base.specs.MemoryMap.{memory_base, line_count}

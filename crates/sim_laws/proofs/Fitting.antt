@@ -18,7 +18,7 @@ use Rattle.sloth_link.specs.Linked.{BlockStands}
 use Rattle.mem_map.specs.Zones.{HasZones, code_zone, data_zone, all_stacks}
 use Rattle.mem_map.specs.StackParts.{no_extent}
 use Rattle.mem_map.specs.Stacks.{HasStacks, top_of}
-use Rattle.sloth_base.specs.declared.places.Bounds.{Bounds}
+use Rattle.sloth_base.specs.declared.limits.Bounds.{Bounds}
 use Rattle.sloth_base.specs.MemoryMap.{memory_base, memory_end, words_base, vectors_base}
 use Rattle.stack_bounds.specs.Bounds.{MayMeet, bytes_of}
 use Rattle.sim_laws.specs.Nested.{HasNestedParts}

@@ -20,7 +20,7 @@ use Rattle.sloth_base.specs.declared.config.TaskDecl.{TaskDecl}
 use Rattle.sloth_base.specs.declared.config.Config.{Config}
 use Rattle.sloth_base.specs.declared.image.Image.{Image}
 use Rattle.sloth_base.specs.declared.image.Mark.{Mark}
-use Rattle.sloth_base.specs.declared.places.Levels.{Levels}
+use Rattle.sloth_base.specs.declared.limits.Levels.{Levels}
 use Rattle.sloth_region.specs.declared.region.Map.{Map}
 use Rattle.rv32_instr.specs.declared.block.Block.{Block}
 use Rattle.rv32_instr.specs.Range.{InRange}
@@ -52,7 +52,7 @@ use Rattle.mem_map.specs.Sections.{marks_of, code_bytes, block_section, IsSectio
 use Rattle.sloth_link.specs.Linked.{datum_section}
 use Rattle.sloth_link.proofs.Written.{code_bytes_length, front_of}
 use Rattle.mem_map.specs.Zones.{code_zone}
-use Rattle.sloth_base.specs.declared.places.Bounds.{Bounds}
+use Rattle.sloth_base.specs.declared.limits.Bounds.{Bounds}
 use Rattle.sloth_base.specs.MemoryMap.{vectors_base, memory_base}
 use Rattle.sim_laws.specs.Zones.{build_of, HasFewAlarms, IsInCode}
 use Rattle.sloth_link.specs.Items.{item_block}

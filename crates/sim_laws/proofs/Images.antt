@@ -28,7 +28,7 @@ use Rattle.sloth_link.specs.Image.{all_data}
 use Rattle.sloth_link.proofs.Joined.{front}
 use Rattle.sloth_link.proofs.Stand.{symbols_stand, word_of}
 use Rattle.mem_map.specs.Zones.{HasZones, data_zone}
-use Rattle.sloth_base.specs.declared.places.Bounds.{Bounds}
+use Rattle.sloth_base.specs.declared.limits.Bounds.{Bounds}
 use Rattle.sloth_base.specs.Limits.{alarm_limit}
 use Rattle.sloth_base.specs.MemoryMap.{vectors_base, memory_base}
 use Rattle.sim_laws.specs.Zones.{IsInCode, build_of}

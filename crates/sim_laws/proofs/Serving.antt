@@ -1,7 +1,7 @@
 -- The code of a service.
 use Rattle.std.proofs.Common.{◌<◌, ℕ, List, length, ap, arith}
 use Rattle.sloth_base.specs.declared.config.Config.{Config}
-use Rattle.sloth_base.specs.declared.places.Levels.{Levels}
+use Rattle.sloth_base.specs.declared.limits.Levels.{Levels}
 use Rattle.sloth_base.specs.declared.service.Service.{Service}
 use Rattle.sloth_base.specs.declared.service.Service.TheVariants as service
 use Rattle.rv32_instr.specs.declared.InstrKind.{InstrKind}

@@ -13,7 +13,7 @@ use Rattle.sloth_link.specs.declared.linking.Datum.{Datum}
 use Rattle.sloth_link.specs.Linked.{BlockStands, AreLinked, sections_of, HaveRoom}
 use Rattle.mem_map.specs.Zones.{HasZones}
 use Rattle.mem_map.specs.Stacks.{HasStacks}
-use Rattle.sloth_base.specs.declared.places.Bounds.{Bounds}
+use Rattle.sloth_base.specs.declared.limits.Bounds.{Bounds}
 use Rattle.sloth_base.specs.MemoryMap.{memory_bytes}
 use Rattle.sloth_link.specs.Image.{all_data}
 use Rattle.sim_laws.specs.Symbols.{HasSymbols}

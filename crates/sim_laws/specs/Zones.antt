@@ -11,7 +11,7 @@ use Rattle.rv32_instr.specs.declared.block.Block.{Block}
 use Rattle.rv32_instr.specs.Range.{InRange}
 use Rattle.masked_code.specs.Kernel.{CanRun}
 use Rattle.code_rules.specs.Code.{IsCalledBy}
-use Rattle.sloth_base.specs.declared.places.Bounds.{Bounds}
+use Rattle.sloth_base.specs.declared.limits.Bounds.{Bounds}
 use Rattle.sloth_base.specs.Limits.{counter_limit, alarm_limit}
 use Rattle.stack_bounds.specs.Bounds.{MayMeet, bytes_of}
 use Rattle.sim_relation.specs.Build.{Build, HasFittingPlaces, frame_bytes}

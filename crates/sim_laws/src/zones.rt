@@ -31,7 +31,7 @@ pub fn symbols_are_in_data()
 {}
 
 /// Each symbol's bytes lie in its own room.
-pub fn symbols_are_in()
+pub fn symbols_lie_inside()
     ensures { SymbolsAreIn }
 {}
 
@@ -46,7 +46,7 @@ pub fn linked_is_image()
 {}
 
 /// Blocks that fit their extents lie there.
-pub fn blocks_are_in()
+pub fn blocks_lie_inside()
     ensures { BlocksAreIn }
 {}
 

@@ -9,7 +9,9 @@
 //! task has passed: `passed` of `specs/Build`, `specs/Progress`.
 #![tactic(auto)]
 
-ghost use Rattle.sim_relation.specs.RelationKept.{MirrorOfStands, ArrivalsAreAdmits, TakenIsOwned, TakenIsTop, TakenIsNext, NoneTaken, StepsKeep, MovesKeep, LeavesKeep, ChangesKeep, EntriesKeep, BelowIsFound, StartsStand};
+ghost use Rattle.sim_relation.specs.RelationKept.{MirrorOfStands, ArrivalsAreAdmits, TakenIsOwned, TakenIsTop};
+ghost use Rattle.sim_relation.specs.RelationKept.{TakenIsNext, NoneTaken, StepsKeep, MovesKeep, LeavesKeep};
+ghost use Rattle.sim_relation.specs.RelationKept.{ChangesKeep, EntriesKeep, BelowIsFound, StartsStand};
 
 /// Where the relation stands, the interrupt controller mirrors the abstract scheduler.
 pub fn mirror_of_stands()

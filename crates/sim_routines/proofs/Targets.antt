@@ -6,7 +6,7 @@ use Rattle.std.proofs.lemmas.List.Sums.{sum_by-cons}
 use Rattle.sloth_base.specs.declared.config.Action.{Action}
 use Rattle.sloth_base.specs.declared.config.Action.TheVariants.{Activate, Set}
 use Rattle.sloth_base.specs.declared.config.AlarmDecl.{AlarmDecl}
-use Rattle.service_gen.specs.declared.alarms.NumberedAlarm.{NumberedAlarm}
+use Rattle.service_gen.specs.declared.tick_code.NumberedAlarm.{NumberedAlarm}
 use Rattle.service_gen.specs.Alarms.{alarms_from, is_target, tasks_before_later, targets}
 use Rattle.sim_relation.specs.Build.{Build}
 use Rattle.sim_routines.proofs.Acting.{ActsOn}

@@ -29,7 +29,7 @@ use Rattle.masked_code.specs.Masked.{Masked, WithArrivals}
 use Rattle.masked_code.specs.Place.{offset_state}
 use Rattle.masked_code.specs.Trace.{Trace, lines_of, touched_lines, early_arrivals, late_arrivals}
 use Rattle.observe.specs.Observe.{View, stretch_event, later_event, entry_event}
-use Rattle.service_gen.specs.declared.alarms.NumberedAlarm.{NumberedAlarm}
+use Rattle.service_gen.specs.declared.tick_code.NumberedAlarm.{NumberedAlarm}
 use Rattle.service_gen.specs.Alarms.{counter_alarms, targets}
 use Rattle.service_gen.proofs.Lengths.{tick_long, tick_few}
 use Rattle.service_gen.specs.Tick.{vector, ground, AreTaskBits, MayTick, TickEffect}

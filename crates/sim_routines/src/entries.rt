@@ -1,6 +1,7 @@
 //! Boot and the entries of tasks as events of the abstract scheduler, by the effects of their code in `vector_gen`.
 ghost use Rattle.sim_routines.specs.Generated.{GeneratedEnters};
-ghost use Rattle.sim_routines.specs.EntrySteps.{BootsLaw, BootStretch, EnterLaw, EnterStretch, ResumeLaw, ResumeStretch};
+ghost use Rattle.sim_routines.specs.EntrySteps.{BootsLaw, BootStretch, EnterLaw, EnterStretch, ResumeLaw};
+ghost use Rattle.sim_routines.specs.EntrySteps.{ResumeStretch};
 
 /// Where a task's line is the one taken and the task is to start anew, its prologue is the event Enter of the abstract
 /// scheduler, whatever ran.

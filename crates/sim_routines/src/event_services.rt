@@ -1,10 +1,12 @@
 //! Services on events as events of the abstract scheduler: to what all services share (`sim_routines`) each adds its
 //! own law, by the effect of its block in `service_gen`.
-ghost use Rattle.sim_routines.specs.EventServiceSteps.{ClearEventGoesOn, GetEventGoesOn, SetEventGoesOn, WaitEventAnswers};
-ghost use Rattle.sim_routines.specs.EventStretch.{ClearEventStretches, GetEventStretches, SetEventStretches, WaitEventStretches};
+ghost use Rattle.sim_routines.specs.EventServiceSteps.{ClearEventGoesOn, GetEventGoesOn, SetEventGoesOn};
+ghost use Rattle.sim_routines.specs.EventServiceSteps.{WaitEventAnswers};
+ghost use Rattle.sim_routines.specs.EventStretch.{ClearEventStretches, GetEventStretches, SetEventStretches};
+ghost use Rattle.sim_routines.specs.EventStretch.{WaitEventStretches};
 
 /// ClearEvent takes events out of the running task's, and the task goes on.
-pub fn clear_event_goes_on()
+pub fn clear_event_continues()
     ensures { ClearEventGoesOn }
 {}
 
@@ -14,7 +16,7 @@ pub fn clear_event_stretches()
 {}
 
 /// GetEvent answers a task's events, and the caller goes on.
-pub fn get_event_goes_on()
+pub fn get_event_continues()
     ensures { GetEventGoesOn }
 {}
 
@@ -24,7 +26,7 @@ pub fn get_event_stretches()
 {}
 
 /// SetEvent sets a task's events, and makes the task Ready where it waits for one of them; the caller goes on.
-pub fn set_event_goes_on()
+pub fn set_event_continues()
     ensures { SetEventGoesOn }
 {}
 

@@ -4,7 +4,7 @@
 //! Entries: boot and each entry of a task, anew or after a wait (`entries`; `specs/EntrySteps`, `specs/Boot`,
 //! `specs/Entries`, `specs/Generated`). Services, and the way back from Schedule: what all share stands once
 //! (`specs/Opening`, `specs/Served`, `proofs/ServiceStretch`); each adds its own law, by the effect of its block in
-//! `service_gen` (`terminate_task_ends`, `set_event_goes_on`, `wait_event_answers`, ..; `specs/ServiceSteps`,
+//! `service_gen` (`terminate_task_ends`, `set_event_continues`, `wait_event_answers`, ..; `specs/ServiceSteps`,
 //! `specs/EventServiceSteps`), and so its stretch (`specs/Stretch`, `specs/EventStretch`). Ticks and the services on
 //! alarms: `ticks`. The relation: `sim_relation` (`Stands`).
 #![tactic(auto)]
@@ -13,11 +13,12 @@ pub mod entries;
 pub mod event_services;
 pub mod ticks;
 
-ghost use Rattle.sim_routines.specs.ServiceSteps.{ActivateTaskGoesOn, ChainTaskAnswers, GetResourceGoesOn, GetTaskIDGoesOn, GetTaskStateGoesOn};
-ghost use Rattle.sim_routines.specs.ServiceSteps.{ReleaseResourceGoesOn, ScheduleGivesWay, ScheduleReturns, TerminateTaskEnds};
-ghost use Rattle.sim_routines.specs.Stretch.{ActivateTaskStretches, ChainTaskStretches, GetResourceStretches, GetTaskIDStretches};
-ghost use Rattle.sim_routines.specs.Stretch.{GetTaskStateStretches, ReleaseResourceStretches, ScheduleStretches, TerminateTaskStretches};
-ghost use Rattle.sim_routines.specs.Stretch.{WayBackStretches};
+ghost use Rattle.sim_routines.specs.ServiceSteps.{ActivateTaskGoesOn, ChainTaskAnswers, GetResourceGoesOn};
+ghost use Rattle.sim_routines.specs.ServiceSteps.{GetTaskIDGoesOn, GetTaskStateGoesOn, ReleaseResourceGoesOn};
+ghost use Rattle.sim_routines.specs.ServiceSteps.{ScheduleGivesWay, ScheduleReturns, TerminateTaskEnds};
+ghost use Rattle.sim_routines.specs.Stretch.{ActivateTaskStretches, ChainTaskStretches, GetResourceStretches};
+ghost use Rattle.sim_routines.specs.Stretch.{GetTaskIDStretches, GetTaskStateStretches, ReleaseResourceStretches};
+ghost use Rattle.sim_routines.specs.Stretch.{ScheduleStretches, TerminateTaskStretches, WayBackStretches};
 
 /// TerminateTask ends the running task, and what runs below it goes on.
 pub fn terminate_task_ends()
@@ -30,7 +31,7 @@ pub fn terminate_task_stretches()
 {}
 
 /// GetTaskID answers the running task's number, and the task goes on.
-pub fn get_task_id_goes_on()
+pub fn get_task_id_continues()
     ensures { GetTaskIDGoesOn }
 {}
 
@@ -40,7 +41,7 @@ pub fn get_task_id_stretches()
 {}
 
 /// GetTaskState answers the number of a task's state, and the caller goes on.
-pub fn get_task_state_goes_on()
+pub fn get_task_state_continues()
     ensures { GetTaskStateGoesOn }
 {}
 
@@ -50,7 +51,7 @@ pub fn get_task_state_stretches()
 {}
 
 /// ActivateTask makes a Suspended task Ready, and answers whether it was; the caller goes on.
-pub fn activate_task_goes_on()
+pub fn activate_task_continues()
     ensures { ActivateTaskGoesOn }
 {}
 
@@ -70,7 +71,7 @@ pub fn chain_task_stretches()
 {}
 
 /// GetResource takes the resource, and the task goes on at its ceiling at least.
-pub fn get_resource_goes_on()
+pub fn get_resource_continues()
     ensures { GetResourceGoesOn }
 {}
 
@@ -80,7 +81,7 @@ pub fn get_resource_stretches()
 {}
 
 /// ReleaseResource releases the resource that was taken last, and the task goes on at the level that ran before.
-pub fn release_resource_goes_on()
+pub fn release_resource_continues()
     ensures { ReleaseResourceGoesOn }
 {}
 

@@ -2,7 +2,7 @@
 use Rattle.std.specs.Prelude.{ℕ, ◌≡◌, List, map}
 use Rattle.sloth_base.specs.declared.app.App.{App}
 use Rattle.sloth_base.specs.declared.config.Config.{Config}
-use Rattle.sloth_base.specs.declared.declared_names.DeclaredNames.{DeclaredNames}
+use Rattle.sloth_base.specs.declared.config.DeclaredNames.{DeclaredNames}
 
 -- the names of the tasks
 abbrev pub task_names : Config → List (List ℕ)

@@ -5,7 +5,7 @@ use Rattle.sloth_base.specs.ServiceCodes.{code_of, services, service_of}
 use Rattle.sloth_base.specs.Blocks.{block_number, block_code, block_object}
 use Rattle.sloth_base.specs.declared.config.Config.{Config}
 use Rattle.sloth_base.specs.declared.list.NoMemory.{NoMemory}
-use Rattle.sloth_base.specs.declared.places.Levels.{Levels}
+use Rattle.sloth_base.specs.declared.limits.Levels.{Levels}
 use Rattle.sloth_base.specs.declared.service.Service.{Service}
 use Rattle.code_lengths.specs.CodeLengths.{option_length}
 use Rattle.sloth_region.specs.declared.region.Map.{Map}

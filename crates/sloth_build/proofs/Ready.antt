@@ -7,7 +7,7 @@ use Rattle.code_rules.specs.WellFormed.{WellFormed}
 use Rattle.osek_scheduler.proofs.Facts.{facts}
 use Rattle.osek_scheduler.proofs.Stacks.{has_body}
 use Rattle.sloth_build.specs.Gathered.{MayBuild}
-use Rattle.sloth_base.specs.declared.places.Bounds.{Bounds}
+use Rattle.sloth_base.specs.declared.limits.Bounds.{Bounds}
 use Rattle.stack_bounds.specs.Bounds.{AreBounds}
 use Rattle.sloth_source.specs.SourceText.{BodiesAreNamed}
 

@@ -16,7 +16,7 @@ use Rattle.sloth_base.specs.declared.config.TaskDecl.{TaskDecl}
 use Rattle.code_lengths.specs.CodeLengths.{block_length, prologue_length, IsPrologueLength}
 use Rattle.code_rules.specs.AppRange.{HasBodies}
 use Rattle.sloth_base.specs.declared.image.Mark.{Mark}
-use Rattle.sloth_base.specs.declared.places.Levels.{Levels}
+use Rattle.sloth_base.specs.declared.limits.Levels.{Levels}
 use Rattle.sloth_base.specs.declared.service.Service.{Service}
 use Rattle.sloth_base.specs.declared.service.Service.TheVariants as service
 use Rattle.sloth_region.specs.declared.region.Extent.{Extent}

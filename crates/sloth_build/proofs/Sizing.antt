@@ -5,7 +5,7 @@ use Rattle.std.proofs.lemmas.List.{get_or_past}
 use Rattle.sloth_base.specs.Named.{function, no_function, operation}
 use Rattle.sloth_base.specs.declared.app.App.{App}
 use Rattle.sloth_base.specs.declared.app.Func.{Func}
-use Rattle.sloth_base.specs.declared.places.Places.{Places}
+use Rattle.sloth_base.specs.declared.limits.Places.{Places}
 use Rattle.rv32_expand.specs.Expansion.{expansion, is_long, item_address}
 use Rattle.rv32_expand.specs.InPlace.{IsAppItem}
 use Rattle.rv32_expand.specs.Long.{size, target_of}

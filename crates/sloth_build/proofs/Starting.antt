@@ -8,7 +8,7 @@ use Rattle.sloth_base.specs.Named.{no_function, body_of}
 use Rattle.sloth_base.specs.declared.app.App.{App}
 use Rattle.sloth_base.specs.declared.app.Func.{Func}
 use Rattle.sloth_base.specs.declared.config.Config.{Config}
-use Rattle.sloth_base.specs.declared.places.Levels.{Levels}
+use Rattle.sloth_base.specs.declared.limits.Levels.{Levels}
 use Rattle.sloth_region.specs.declared.region.Map.{Map}
 use Rattle.vector_gen.specs.Places.{IsStackTop}
 use Rattle.rv32_expand.specs.Sizes.{items_before}

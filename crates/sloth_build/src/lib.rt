@@ -5,11 +5,10 @@
 //! (clauses `sound`, `weighed`, `paced`, `shows`, `items`, `bytes`). The promise: `sim_induction`, `rv32_expand`
 //! (`InPlace`), `sim_laws` (`TaskStates`); texts: `sloth_source`.
 //!
-//! Of well-formed task code and its stacks `building::image` gives such an image, each of whose pieces stands where the
+//! Of well-formed task code and its stacks `gathering::image` gives such an image, each of whose pieces stands where the
 //! planned map has it (`specs/ImageOf`), of blocks with no hole between them (`gathering::gather`; `specs/Gathered`).
 #![tactic(auto)]
 
-pub mod building;
 pub mod gathering;
 
-pub use building::{Built, build};
+pub use gathering::{Built, build};

@@ -4,7 +4,7 @@ use Rattle.debug_command.specs.DebugRun.{HasDebugRun}
 use Rattle.debug_command.specs.Words.{Debugging, IsDebugging}
 use Rattle.core_commands.specs.ProgramRun.{HasTopRun}
 use Rattle.sloth_commands.specs.ToolFiles.{IsToolAnswer}
-use Rattle.command_line.specs.declared.status.Status.{Status}
+use Rattle.command_line.specs.declared.answer.Status.{Status}
 
 -- the words `debug IMG ARR` had a session; all others the top call's answer
 abbrev pub HasProgramRun : List (List ℕ) → Status → Type 0

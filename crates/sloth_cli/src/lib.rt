@@ -7,15 +7,13 @@
 //! that each line of a tool's text is one put (`lines`), and of every image that is built what all its runs do
 //! (`bounds`, `responses`, `checked`, `formulas`, `registers`, `requests`). All are defined in `core_commands` (`Top`,
 //! `ImageAnswers`, `SampleAnswers`), for a program with any tools, and in `sloth_commands` (`ToolAnswers`, `ToolLines`,
-//! `Built..`). Of the program as it ships `program::run_over` says the same for the bytes that the reads delivered
+//! `Built..`). Of the program as it ships `top::run_over` says the same for the bytes that the reads delivered
 //! (`specs/ProgramRun`).
 #![tactic(auto)]
 
-pub mod program;
 pub mod top;
 
 pub use command_line::Status;
 pub use core_commands::laws;
-pub use program::{run_program, run_words};
 pub use sloth_runner::{RunEnd, Runner, Tally};
-pub use top::sloth_top;
+pub use top::{run_program, run_words, sloth_top};

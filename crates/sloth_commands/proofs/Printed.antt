@@ -21,7 +21,7 @@ use Rattle.osek_scheduler.specs.Runs.{AreStepsBehind}
 use Rattle.sim_induction.specs.Sound.{events_of}
 use Rattle.trace_text.specs.EventNumbers.{Has32Bits, HasEventNumbers, IsNumberOrNone, IsNameNumber}
 use Rattle.trace_text.specs.Texts.{lines_with}
-use Rattle.trace_text.specs.declared.summary.Form.TheVariants as form
+use Rattle.trace_text.specs.declared.events.Form.TheVariants as form
 use Rattle.trace_check.specs.TraceText.{HasLine}
 use Rattle.sloth_base.specs.DeclaredNames.{task_names, counter_names, function_names}
 use Rattle.sloth_commands.specs.CheckedRuns.{SoundRunsAreChecked}

@@ -1,7 +1,7 @@
 -- What a tool did, and why it did not.
 use Rattle.std.proofs.Common.{◌≡◌, ◌∙◌, ℕ, List, [], ◌∷◌, ◌++◌, refl, sym, ap, subst, arith, length}
 use Rattle.std.specs.Prelude.{IsTrue, Option, Some, None, Result, Ok, Err, IfOk, OnOk}
-use Rattle.image_file.specs.declared.fault.ImageFault.{ImageFault}
+use Rattle.image_file.specs.declared.read.ImageFault.{ImageFault}
 use Rattle.sloth_io.specs.Counts.{Rose}
 use Rattle.sloth_io.specs.Sink.{Output}
 use Rattle.sloth_io.specs.Store.{Files, KeepsFiles, AreDelivered, call_files}
@@ -21,7 +21,7 @@ use Rattle.sloth_commands.specs.ToolFiles.{IsToolAnswer}
 use Rattle.core_commands.specs.ToolInputs.{AreToolInputs, ReadsImageFirst, input_deliveries}
 use Rattle.core_commands.specs.Top.{World, world, FilesAfter, IsOutputWritten, IsUnwrittenOutput, IsTextTaken}
 use Rattle.core_commands.specs.Failures.{IsTellFailure, IsCommandFailure, IsPerformed}
-use Rattle.command_line.specs.declared.status.Status.{Status}
+use Rattle.command_line.specs.declared.answer.Status.{Status}
 use Rattle.core_commands.specs.declared.failure.Failure.{Failure}
 use Rattle.core_commands.specs.declared.failure.Failure.TheVariants as failure
 use Rattle.core_commands.proofs.CallFiles.{delivered-in_call, tool-inputs-in_call, stays-behind, still}

@@ -4,7 +4,7 @@ use Rattle.std.specs.Prelude.{IsTrue, ◌⊎◌, Option, Some, None, codes}
 use Rattle.sloth_base.specs.Limits.{file_limit}
 use Rattle.sloth_io.specs.Counts.{Rose}
 use Rattle.sloth_io.specs.Store.{Files, IsMissing, IsTooLong}
-use Rattle.image_file.specs.declared.fault.ImageFault.{ImageFault}
+use Rattle.image_file.specs.declared.read.ImageFault.{ImageFault}
 use Rattle.image_file.proofs.Faulted.{fault_is_one, none_is_both}
 use Rattle.command_line.specs.Command.{Command, Builds, Executes, Lists, Samples, Uses, IsCommand}
 use Rattle.command_line.specs.Tools.{ToolUse, file_names}
@@ -25,8 +25,8 @@ use Rattle.core_commands.specs.ToolInputs.{AreToolInputs, ReadsImageFirst}
 use Rattle.sloth_commands.specs.ToolAnswers.{IsToolTold, IsToolStatus, OutputWorks, StandsFor, ToolWorks, HasToolAnswer, HasToolDoneAnswer}
 use Rattle.core_commands.specs.Top.{World, IsFailedRead, IsLongRead, FilesAfter, IsUnwrittenOutput, IsRequired, IsPutAnswer, IsTextTaken, IsTextBrokenOff, IsFullAnswer, IsTopAnswer}
 use Rattle.core_commands.specs.Top.{IsCommandDone, IsCommandRefused, IsCommandUnwritten, IsCommandStopped, ReadsWork, LacksTask}
-use Rattle.command_line.specs.declared.status.Status.{Status}
-use Rattle.command_line.specs.declared.status.Status.TheVariants as status
+use Rattle.command_line.specs.declared.answer.Status.{Status}
+use Rattle.command_line.specs.declared.answer.Status.TheVariants as status
 use Rattle.core_commands.proofs.OwnOutput.{keeps-inputs, no-usage}
 use Rattle.core_commands.specs.CommandFiles.{HasOwnOutput, IsUsageCause}
 use Rattle.core_commands.proofs.Complete.{not-missing, not-long, counted-put, no-broken-put, no-failed-write}

@@ -11,8 +11,8 @@ use Rattle.command_line.proofs.Commands.{one-command}
 use Rattle.command_line.specs.Lines.{tool_text}
 use Rattle.command_line.specs.declared.answer.ToolAnswer.{ToolAnswer}
 use Rattle.command_line.specs.Statuses.{tool_status}
-use Rattle.command_line.specs.declared.status.Status.{Status}
-use Rattle.command_line.specs.declared.status.Status.TheVariants as status
+use Rattle.command_line.specs.declared.answer.Status.{Status}
+use Rattle.command_line.specs.declared.answer.Status.TheVariants as status
 use Rattle.core_commands.specs.CommandFiles.{IsOnlyAsked, IsUsageCause}
 use Rattle.core_commands.specs.Top.{World, world, FilesAfter, IsRequired, IsTextTaken, IsPutAnswer, IsCloseAnswer, IsToolEnd}
 use Rattle.core_commands.specs.Failures.{IsReadFailure, IsTellFailure, IsCommandFailure, IsFailureEnd}

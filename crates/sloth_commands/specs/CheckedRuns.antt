@@ -10,7 +10,7 @@ use Rattle.rv32_expand.specs.InPlace.{ItemsInPlace}
 use Rattle.sim_induction.specs.Sound.{AreComing, Sound}
 use Rattle.sim_relation.specs.Bounds.{AreBelow}
 use Rattle.trace_text.specs.EventNumbers.{Has32Bits}
-use Rattle.trace_text.specs.declared.summary.Form.TheVariants.{Counted}
+use Rattle.trace_text.specs.declared.events.Form.TheVariants.{Counted}
 use Rattle.trace_check.specs.Verdicts.{Checked}
 use Rattle.sloth_runner.specs.Runner.{run_text}
 

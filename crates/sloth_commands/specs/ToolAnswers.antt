@@ -14,8 +14,8 @@ use Rattle.core_commands.specs.CommandFiles.{HasOwnOutput}
 use Rattle.core_commands.specs.ToolInputs.{AreToolInputs}
 use Rattle.sloth_commands.specs.ToolFiles.{IsToolAnswer}
 use Rattle.core_commands.specs.Top.{World, IsTextTaken, FilesAfter, IsFullAnswer, IsBrokenOff, ReadsWork, WritesWork, PutsWork}
-use Rattle.command_line.specs.declared.status.Status.{Status}
-use Rattle.command_line.specs.declared.status.Status.TheVariants as status
+use Rattle.command_line.specs.declared.answer.Status.{Status}
+use Rattle.command_line.specs.declared.answer.Status.TheVariants as status
 
 -- this is the tool's answer: its status, its text whole, and what it leaves in the files
 pub record IsToolTold (a : ToolAnswer) (output : Option (List ℕ)) (old new : World) (answer : Status) : Type 0 where

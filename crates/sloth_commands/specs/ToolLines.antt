@@ -4,8 +4,8 @@ use Rattle.sloth_io.specs.Sink.{Output, output_with, FailsToPassOn}
 use Rattle.sloth_io.specs.Lines.{lines_in, BreaksOffInLine}
 use Rattle.command_line.specs.Command.{Uses, IsCommand}
 use Rattle.command_line.specs.Tools.{ToolUse}
-use Rattle.command_line.specs.declared.status.Status.{Status}
-use Rattle.command_line.specs.declared.status.Status.TheVariants as status
+use Rattle.command_line.specs.declared.answer.Status.{Status}
+use Rattle.command_line.specs.declared.answer.Status.TheVariants as status
 use Rattle.sloth_commands.specs.ToolFiles.{IsToolAnswer}
 use Rattle.core_commands.specs.Top.{World, IsRequired, IsTextTaken, IsToolEnd}
 use Rattle.core_commands.specs.declared.failure.Failure.{Failure}

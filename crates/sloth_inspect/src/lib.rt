@@ -33,7 +33,6 @@ pub(crate) fn word(bus: &mut SlothBus, offset: u32) -> u32
     }
 }
 
-// The state of a task.
 #[tactic(auto, unfolding(crate::specs::States::state_in))]
 fn state(bus: &mut SlothBus, task: u8) -> TaskState
     requires { task < task_limit }

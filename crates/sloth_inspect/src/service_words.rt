@@ -21,7 +21,6 @@ pub struct ServiceWords {
     pub alarms: [u32; ALARM_LIMIT],
 }
 
-// The events of a task that are set.
 fn event_word(bus: &mut SlothBus, task: u8) -> u32
     requires { task < task_limit }
     ensures is { result ≡ word_at bus.old.ram (events task) }
@@ -30,7 +29,6 @@ fn event_word(bus: &mut SlothBus, task: u8) -> u32
     word(bus, events(task) as u32)
 }
 
-// The value of a counter.
 fn counter_word(bus: &mut SlothBus, counter: u8) -> u32
     requires { counter < counter_limit }
     ensures is { result ≡ word_at bus.old.ram (counter_value counter) }
@@ -39,7 +37,6 @@ fn counter_word(bus: &mut SlothBus, counter: u8) -> u32
     word(bus, counter_value(counter) as u32)
 }
 
-// The ticks that an alarm has left.
 fn alarm_word(bus: &mut SlothBus, alarm: u8) -> u32
     requires { alarm < alarm_limit }
     ensures is { result ≡ word_at bus.old.ram (alarm_left alarm) }
@@ -48,7 +45,6 @@ fn alarm_word(bus: &mut SlothBus, alarm: u8) -> u32
     word(bus, alarm_left(alarm) as u32)
 }
 
-// The events of each task that are set.
 fn event_words(bus: &mut SlothBus) -> [u32; TASK_LIMIT]
     ensures words { result ≡ event_words bus.old.ram }
     ensures same { bus.new ≡ bus.old }
@@ -60,7 +56,6 @@ fn event_words(bus: &mut SlothBus) -> [u32; TASK_LIMIT]
     words
 }
 
-// The values of the counters.
 fn counter_words(bus: &mut SlothBus) -> [u32; COUNTER_LIMIT]
     ensures words { result ≡ counter_words bus.old.ram }
     ensures same { bus.new ≡ bus.old }
@@ -70,7 +65,6 @@ fn counter_words(bus: &mut SlothBus) -> [u32; COUNTER_LIMIT]
     [first, second]
 }
 
-// The ticks that each alarm has left.
 fn alarm_words(bus: &mut SlothBus) -> [u32; ALARM_LIMIT]
     ensures words { result ≡ alarm_words bus.old.ram }
     ensures same { bus.new ≡ bus.old }

@@ -4,8 +4,8 @@ use Rattle.std.specs.Str.{bytes_eq}
 use Rattle.std.proofs.Math.ListN.{set}
 use Rattle.std.proofs.lemmas.Slice.Eq.{bytes_eq-Decides}
 use Rattle.sloth_io.specs.Slots.{IsFilePlace, bytes_named, file_named, file_of, has_space, space_named, files_with}
-use Rattle.sloth_io.specs.declared.slots.MemFile.{MemFile}
-use Rattle.sloth_io.specs.declared.slots.Slot.{Slot}
+use Rattle.sloth_io.specs.declared.mem_store.MemFile.{MemFile}
+use Rattle.sloth_io.specs.declared.mem_store.Slot.{Slot}
 
 -- a file of these parts
 abbrev pub mem_file : List ℕ → List ℕ → ℕ → MemFile

@@ -9,7 +9,7 @@ use Rattle.sloth_io.specs.Store.{Files}
 use Rattle.sloth_io.specs.declared.store.StoreFault.{StoreFault}
 use Rattle.sloth_io.specs.declared.store.StoreFault.TheVariants.{Failed, TooLong, Memory}
 use Rattle.sloth_io.specs.declared.mem_store.MemStore.{MemStore}
-use Rattle.sloth_io.specs.declared.slots.MemFile.{MemFile}
+use Rattle.sloth_io.specs.declared.mem_store.MemFile.{MemFile}
 
 -- the files of a store
 abbrev pub files_of : MemStore → List MemFile

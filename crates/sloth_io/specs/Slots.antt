@@ -2,8 +2,8 @@
 use Rattle.std.specs.Prelude.{◌≡◌, ℕ, zero, suc, List, [], ◌∷◌, Option, Some, None, Bool, true, false, if◌then◌else◌, nat_le}
 use Rattle.std.specs.Option.{option_map}
 use Rattle.std.specs.Str.{bytes_eq}
-use Rattle.sloth_io.specs.declared.slots.MemFile.{MemFile}
-use Rattle.sloth_io.specs.declared.slots.Slot.{Slot}
+use Rattle.sloth_io.specs.declared.mem_store.MemFile.{MemFile}
+use Rattle.sloth_io.specs.declared.mem_store.Slot.{Slot}
 
 -- the file that is kept in a slot
 abbrev pub file_of : Slot → MemFile

@@ -12,7 +12,7 @@ ghost use Rattle.sloth_io.specs.Replaced.{IsReplaced, IsUnreplaced};
 
 use crate::history::History;
 use crate::replaced_files::{read_whole, replace_file};
-use crate::{Found, Host, Store, StoreFault, System};
+use crate::{Found, Host, Outcome, Store, StoreFault, System};
 use std::alloc::Global;
 use std::rt::Files;
 
@@ -61,7 +61,7 @@ impl<S: System> SystemFiles<S> {
         self.failed_reads
     }
 
-    fn tell_read(&mut self, outcome: Result<(), StoreFault>, name: &str, bytes: &[u8])
+    fn tell_read(&mut self, outcome: Outcome, name: &str, bytes: &[u8])
         ensures told { shown_files self.new ≡ files_after_read outcome name.now bytes.now (shown_files self.old) }
         ensures keeps { KeepsFiles (shown_files self.old) (shown_files self.new) }
         ensures taken { taken_bytes self.new ≡ taken_bytes self.old }
@@ -78,12 +78,7 @@ impl<S: System> SystemFiles<S> {
     }
 }
 
-fn read_file<S: System>(
-    system: &mut S,
-    name: &str,
-    limit: usize,
-    into: &mut Vec<u8>,
-) -> Result<(), StoreFault>
+fn read_file<S: System>(system: &mut S, name: &str, limit: usize, into: &mut Vec<u8>) -> Outcome
     ensures ok { OnOk result (HasPrefixWithin limit into.old.items into.new.items) }
     ensures too_long { result ≡ Err StoreFault.TooLong → HasPrefixBeyond limit into.old.items into.new.items }
     ensures front { HasPrefix into.old.items into.new.items }
@@ -99,7 +94,7 @@ fn read_file<S: System>(
     read_whole(&mut file, limit, into)
 }
 
-fn take_back(outcome: Result<(), StoreFault>, before: usize, into: &mut Vec<u8>)
+fn take_back(outcome: Outcome, before: usize, into: &mut Vec<u8>)
     ensures ok { OnOk outcome (into.new.items ≡ into.old.items) }
     ensures err { OnErr outcome (into.new.items ≡ take before into.old.items) }
 {
@@ -124,7 +119,7 @@ fn is_one_file(one: Option<Found>, other: Option<Found>) -> bool
 impl<S: System> Store for SystemFiles<S> {
     ghost seen = { λ store. shown_files store };
 
-    fn read(&mut self, name: &str, limit: usize, into: &mut Vec<u8>) -> Result<(), StoreFault>
+    fn read(&mut self, name: &str, limit: usize, into: &mut Vec<u8>) -> Outcome
         ensures ok { OnOk result
             (IsAppended (shown_files self.old) (shown_files self.new) name.now limit into.old.items into.new.items) }
         ensures err { OnErr result (into.new.items ≡ into.old.items) }
@@ -158,7 +153,7 @@ impl<S: System> Store for SystemFiles<S> {
         outcome
     }
 
-    fn write(&mut self, name: &str, bytes: &[u8]) -> Result<(), StoreFault>
+    fn write(&mut self, name: &str, bytes: &[u8]) -> Outcome
         ensures ok { OnOk result (IsFileWritten (shown_files self.old) (shown_files self.new) name.now bytes.now) }
         ensures failed { OnErr result
             (IsUnwritten (shown_files self.old) (shown_files self.new) name.now (length bytes.now)) }

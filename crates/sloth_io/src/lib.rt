@@ -12,16 +12,14 @@ pub mod mem_store;
 pub mod out_sink;
 pub mod replaced_files;
 pub mod sink;
-pub mod slots;
 pub mod store;
 pub mod system;
 
 pub use file_store::{FileStore, SystemFiles};
 pub use mem_sink::MemSink;
-pub use mem_store::MemStore;
+pub use mem_store::{MemFile, MemStore};
 pub use out_sink::OutSink;
 pub use replaced_files::Found;
 pub use sink::{Sink, SinkFault, put_lines};
-pub use slots::MemFile;
-pub use store::{Store, StoreFault};
+pub use store::{Outcome, Store, StoreFault};
 pub use system::{Host, System};

@@ -1,20 +1,15 @@
-//! A store in memory.
-ghost use Rattle.std.specs.Prelude.{◌≡◌, ◌≢◌, ◌≤◌, ◌<◌, None, Some, length, All, OnErr, OnOk, IfOk, IfSome, IfNone};
-ghost use Rattle.std.specs.Prelude.{IsOkUnless, MatchOption, is_ok, is_err, if◌then◌else◌};
+//! A store in memory. Files in memory, each in a space of its own.
+ghost use Rattle.std.specs.Prelude.{◌≡◌, ◌≢◌, ◌≤◌, ◌<◌, None, Some, length, All, OnErr, OnOk, IfOk, IfSome, IfNone, IsOkUnless, MatchOption, is_ok, is_err, if◌then◌else◌, map};
 ghost use Rattle.std.specs.List.{AllPairs};
 ghost use Rattle.sloth_io.specs.Counts.{count_after_call, next_call};
-ghost use Rattle.sloth_io.specs.Slots.{bytes_named, files_with};
-ghost use Rattle.sloth_io.specs.MemStore.{IsFreshStore, is_next_call_failed, files_of, IsStoreCalled, is_too_long};
-ghost use Rattle.sloth_io.specs.MemStore.{read_fault, shown_files, is_next_write_done, IsDelivered, fault_by};
-ghost use Rattle.sloth_io.specs.MemStore.{is_overlong, reads_after};
-ghost use Rattle.sloth_io.specs.Store.{IsAppended, IsMissing, IsTooLong, IsUnwritten, IsFileWritten, KeepsOthers};
-ghost use Rattle.sloth_io.specs.Store.{KeepsFiles, KeepsReads};
+ghost use Rattle.sloth_io.specs.Slots.{bytes_named, files_with, IsFilePlace, file_named, file_of, has_space};
+ghost use Rattle.sloth_io.specs.MemStore.{IsFreshStore, is_next_call_failed, files_of, IsStoreCalled, is_too_long, read_fault, shown_files, is_next_write_done, IsDelivered, fault_by, is_overlong, reads_after};
+ghost use Rattle.sloth_io.specs.Store.{IsAppended, IsMissing, IsTooLong, IsUnwritten, IsFileWritten, KeepsOthers, KeepsFiles, KeepsReads};
 
-pub use crate::MemFile;
+use crate::buffer::Buffer;
 use crate::history::History;
-use crate::slots::{Slot, made_slots, named_bytes, replace};
-use crate::{Store, StoreFault};
-use sloth_base::Result;
+use crate::{Outcome, Store, StoreFault};
+use sloth_base::{List, Name, NoMemory, Result};
 use std::alloc::Global;
 
 /// Files in memory, and the numbers of the calls that are to fail, counted from 1 over reads and writes.
@@ -62,7 +57,6 @@ impl MemStore {
         named_bytes(self.slots.as_slice(), name.as_bytes())
     }
 
-    // Counts a call, and says whether it is to fail.
     fn call(&mut self) -> bool
         ensures fails { result ≡ is_next_call_failed self.old }
         ensures rest { self.new ≡ record self.old { calls = next_call self.old.calls } }
@@ -87,13 +81,7 @@ impl MemStore {
         fails
     }
 
-    fn deliver(
-        &self,
-        fails: bool,
-        name: &str,
-        limit: usize,
-        into: &mut Vec<u8>,
-    ) -> Result<(), StoreFault>
+    fn deliver(&self, fails: bool, name: &str, limit: usize, into: &mut Vec<u8>) -> Outcome
         ensures refused { MatchOption (fault_by fails (bytes_named name.now (files_of self.now)) limit)
             (IsOkUnless result StoreFault.Memory) (λ fault. result ≡ Err fault) }
         ensures ok { OnOk result
@@ -115,7 +103,7 @@ impl MemStore {
         Ok(())
     }
 
-    fn tell_read(&mut self, outcome: Result<(), StoreFault>, name: &str, bytes: &[u8])
+    fn tell_read(&mut self, outcome: Outcome, name: &str, bytes: &[u8])
         ensures slots { self.new.slots ≡ self.old.slots }
         ensures failing { self.new.fails ≡ self.old.fails }
         ensures calls { self.new.calls ≡ self.old.calls }
@@ -141,7 +129,7 @@ impl MemStore {
 impl Store for MemStore {
     ghost seen = { λ store. shown_files store };
 
-    fn read(&mut self, name: &str, limit: usize, into: &mut Vec<u8>) -> Result<(), StoreFault>
+    fn read(&mut self, name: &str, limit: usize, into: &mut Vec<u8>) -> Outcome
         ensures ok { OnOk result
             (IsAppended (shown_files self.old) (shown_files self.new) name.now limit into.old.items into.new.items) }
         ensures err { OnErr result (into.new.items ≡ into.old.items) }
@@ -171,7 +159,7 @@ impl Store for MemStore {
         outcome
     }
 
-    fn write(&mut self, name: &str, bytes: &[u8]) -> Result<(), StoreFault>
+    fn write(&mut self, name: &str, bytes: &[u8]) -> Outcome
         ensures ok { OnOk result (IsFileWritten (shown_files self.old) (shown_files self.new) name.now bytes.now) }
         ensures failed { OnErr result
             (IsUnwritten (shown_files self.old) (shown_files self.new) name.now (length bytes.now)) }
@@ -202,4 +190,83 @@ impl Store for MemStore {
         }
         is
     }
+}
+
+/// A file that a store is made with: its name, its bytes, and the greatest number of bytes that it may hold.
+#[derive(Drop)]
+pub struct MemFile {
+    pub name: Name,
+    pub bytes: List<u8>,
+    pub space: u32,
+}
+
+/// A file, with its space reserved.
+#[derive(Drop)]
+pub struct Slot {
+    pub name: Name,
+    pub buffer: Buffer,
+}
+
+impl Slot {
+    fn new(alloc: Global, file: &MemFile) -> Result<Slot>
+        requires { length file.now.bytes ≤ file.now.space }
+        ensures { IfOk result (λ slot. file_of slot ≡ file.now) }
+    {
+        let name = Name::new(alloc, file.name.bytes())?;
+        let mut buffer = Buffer::new(alloc, file.space)?;
+        let whole = buffer.append(file.bytes.items());
+        prove!(whole);
+        Ok(Slot { name, buffer })
+    }
+}
+
+/// A slot for each of these files.
+pub fn made_slots(alloc: Global, files: &[MemFile]) -> Result<Vec<Slot>>
+    requires { All (λ file. length file.bytes ≤ file.space) files.now }
+    ensures { IfOk result (λ slots. map file_of slots.items ≡ files.now) }
+{
+    let mut slots = Vec::new(alloc);
+    for file in files {
+        let slot = Slot::new(alloc, file)?;
+        slots.push(slot).map_err(|_| NoMemory)?;
+    }
+    Ok(slots)
+}
+
+/// The bytes of the file of a name.
+pub fn named_bytes<'a>(slots: &'a [Slot], name: &[u8]) -> Option<&'a [u8]>
+    ensures found { IfSome result (λ bytes. bytes_named name.now (map file_of slots.now) ≡ Some bytes.now) }
+    ensures none { IfNone result (bytes_named name.now (map file_of slots.now) ≡ None) }
+{
+    for slot in slots {
+        if slot.name.bytes() == name {
+            return Some(slot.buffer.bytes());
+        }
+    }
+    None
+}
+
+fn named_place(slots: &[Slot], name: &[u8]) -> Option<usize>
+    ensures found { IfSome result (IsFilePlace name.now (map file_of slots.now)) }
+    ensures within { IfSome result (λ place. place < length slots.now) }
+    ensures none { IfNone result (file_named name.now (map file_of slots.now) ≡ None) }
+{
+    for (place, slot) in slots.iter().enumerate() {
+        if slot.name.bytes() == name {
+            return Some(place);
+        }
+    }
+    None
+}
+
+/// Makes the file of a name hold these bytes, where there is space for them.
+pub fn replace(slots: &mut Vec<Slot>, name: &[u8], bytes: &[u8]) -> bool
+    ensures done { result ≡ has_space name.now (length bytes.now) (map file_of slots.old.items) }
+    ensures files { map file_of slots.new.items ≡
+        (if result then files_with name.now bytes.now (map file_of slots.old.items) else map file_of slots.old.items) }
+{
+    let Some(place) = named_place(slots.as_slice(), name) else {
+        return false;
+    };
+    slots[place].buffer.replace(bytes)
 }

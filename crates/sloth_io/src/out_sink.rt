@@ -5,8 +5,7 @@ ghost use Rattle.sloth_io.specs.Buffered.{bytes_in, IsPrefix, IsGivenBut, IsLost
 use crate::buffered::Buffered;
 use crate::history::History;
 use crate::{Sink, SinkFault};
-use std::io;
-use std::io::Write;
+use std::io::{self, Write};
 
 /// Standard output, behind a buffer. It tells the bytes that were put and those that were given to the system, and
 /// counts its faults. Behind a failure each call fails.

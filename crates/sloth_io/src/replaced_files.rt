@@ -6,12 +6,12 @@ ghost use Rattle.std.specs.Io.KnownBytes.{Appends, Consumes, IsAtEnd};
 ghost use Rattle.sloth_io.specs.declared.replaced_files.Found.{Found};
 ghost use Rattle.sloth_io.specs.FileStore.{IsGivenTo, HasPrefix, HasPrefixBeyond, HasPrefixWithin};
 ghost use Rattle.sloth_io.specs.System.{Call, Synced, added, LeavesFile, LeavesFiles};
-ghost use Rattle.sloth_io.specs.Replaced.{is_written_there, is_users_link, has_owner, may_follow, owner_calls};
+ghost use Rattle.sloth_io.specs.Replaced.{is_written_there, may_follow, owner_calls};
 ghost use Rattle.sloth_io.specs.Replaced.{tried_calls, first_mode, mode_calls, filling_calls, calls_in_place};
 ghost use Rattle.sloth_io.specs.Replaced.{calls_beside, calls_there, IsReplaced, IsUnreplaced};
 ghost use Rattle.std.specs.Io.{appended_bytes};
 
-use crate::{StoreFault, System};
+use crate::{Outcome, StoreFault, System};
 use sloth_base::Result;
 use std::alloc::Global;
 use std::io::{Read, Write};
@@ -23,32 +23,20 @@ fn stays_there(found: Option<Found>) -> bool
     matches!(found, Some(found) if !found.plain || found.names > 1)
 }
 
-// It is a link that root did not make.
-fn needs_owner(found: Option<Found>) -> bool
-    ensures { result ≡ is_users_link found }
-{
-    matches!(found, Some(found) if found.link && found.owner != 0)
-}
-
-fn is_of_owner(found: Option<Found>, own: Option<Found>) -> bool
-    ensures { result ≡ has_owner found own }
-{
-    matches!((found, own), (Some(found), Some(own)) if found.owner == own.owner)
-}
-
 // A link is followed that belongs to root or to the user of this process.
 fn is_followed<S: System>(system: &mut S, found: Option<Found>) -> bool
     ensures { (own : Option Found) × (S.calls system.new ≡ added (S.calls system.old) (owner_calls found own))
         × (result ≡ may_follow found own) }
 {
-    if !needs_owner(found) {
+    let Some(found) = found else {
+        return true;
+    };
+    if !found.link || found.owner == 0 {
         return true;
     }
-    let own = system.follow("/proc/self");
-    is_of_owner(found, own)
+    matches!(system.follow("/proc/self"), Some(own) if own.owner == found.owner)
 }
 
-// A new file's mode until it is written.
 fn mode_before(found: Option<Found>) -> u32
     ensures { result ≡ first_mode found }
 {
@@ -58,7 +46,6 @@ fn mode_before(found: Option<Found>) -> u32
     }
 }
 
-// Gives an open file the permissions of the one that it is to replace, if there is one.
 fn takes_mode<S: System>(system: &mut S, file: &S::File, found: Option<Found>) -> bool
     ensures { S.calls system.new ≡ added (S.calls system.old) (mode_calls found result) }
 {
@@ -69,24 +56,19 @@ fn takes_mode<S: System>(system: &mut S, file: &S::File, found: Option<Found>) -
 }
 
 // Writes an open file. When done, the file took all bytes, has the permissions of the one replaced, and is on its disk.
-fn write_open<S: System>(
-    system: &mut S,
-    file: &mut S::File,
-    found: Option<Found>,
-    bytes: &[u8],
-) -> bool
+fn write_open<S: System>(host: &mut S, file: &mut S::File, was: Option<Found>, bytes: &[u8]) -> bool
     ensures given { result ≡ true → Appends (S.File.contents file.old) (S.File.contents file.new) bytes.now }
-    ensures done { result ≡ true → S.calls system.new ≡ added (S.calls system.old)
-        (mode_calls found true ++ Synced true ∷ []) }
-    ensures failed { LeavesFiles (S.calls system.old) (S.calls system.new) }
+    ensures done { result ≡ true → S.calls host.new ≡ added (S.calls host.old)
+        (mode_calls was true ++ Synced true ∷ []) }
+    ensures failed { LeavesFiles (S.calls host.old) (S.calls host.new) }
 {
     if write_whole(file, bytes) < bytes.len() {
         return false;
     }
-    if !takes_mode(system, file, found) {
+    if !takes_mode(host, file, was) {
         return false;
     }
-    system.sync(file)
+    host.sync(file)
 }
 
 fn fill<S: System>(system: &mut S, file: S::File, found: Option<Found>, bytes: &[u8]) -> bool
@@ -166,7 +148,6 @@ fn replace_there<S: System>(system: &mut S, found: Option<Found>, name: &str, by
     fill(system, file, None, bytes)
 }
 
-// A file that is there can be opened to write it.
 fn is_writable<S: System>(system: &mut S, name: &str, found: Option<Found>) -> bool
     ensures done { result ≡ true → S.calls system.new ≡ added (S.calls system.old) (tried_calls name.now found) }
     ensures failed { LeavesFiles (S.calls system.old) (S.calls system.new) }
@@ -225,7 +206,7 @@ pub struct Found {
 }
 
 /// Reads to the end of a file, or until more bytes than the limit were taken. A read of nothing is the end.
-pub fn read_whole<F: Read>(from: &mut F, limit: usize, into: &mut Vec<u8>) -> Result<(), StoreFault>
+pub fn read_whole<F: Read>(from: &mut F, limit: usize, into: &mut Vec<u8>) -> Outcome
     ensures ok { OnOk result (HasPrefixWithin limit into.old.items into.new.items) }
     ensures too_long { result ≡ Err StoreFault.TooLong → HasPrefixBeyond limit into.old.items into.new.items }
     ensures front { HasPrefix into.old.items into.new.items }

@@ -16,6 +16,9 @@ pub enum StoreFault {
     Memory,
 }
 
+/// What a call on a file was, or why it was refused.
+pub type Outcome = Result<(), StoreFault>;
+
 /// Named files. A store may tell what they hold, counts its failed reads, overlong reads and failed writes, and tells
 /// what was read and written, and of which names it said that they are of one file.
 pub trait Store {
@@ -23,7 +26,7 @@ pub trait Store {
     ghost seen: { Self → Files };
 
     /// Appends the bytes of a file of at most `limit` bytes. Want of memory may come at any call.
-    fn read(&mut self, name: &str, limit: usize, into: &mut Vec<u8>) -> Result<(), StoreFault>
+    fn read(&mut self, name: &str, limit: usize, into: &mut Vec<u8>) -> Outcome
         ensures ok { OnOk result
             (IsAppended (seen self.old) (seen self.new) name.now limit into.old.items into.new.items) }
         ensures err { OnErr result (into.new.items ≡ into.old.items) }
@@ -39,7 +42,7 @@ pub trait Store {
             ≡ (seen self.old).overlong_reads };
 
     /// Makes a file hold exactly these bytes. After a failure that file may hold anything.
-    fn write(&mut self, name: &str, bytes: &[u8]) -> Result<(), StoreFault>
+    fn write(&mut self, name: &str, bytes: &[u8]) -> Outcome
         ensures ok { OnOk result (IsFileWritten (seen self.old) (seen self.new) name.now bytes.now) }
         ensures failed { OnErr result (IsUnwritten (seen self.old) (seen self.new) name.now (length bytes.now)) }
         ensures only_failed { OnErr result (result ≡ Err StoreFault.Failed) }

@@ -86,9 +86,7 @@ impl<'a, R: Files> Host<'a, R> {
 }
 
 fn found(told: io::Result<Metadata>) -> Option<Found> {
-    let Ok(told) = told else {
-        return None;
-    };
+    let told = told.ok()?;
     Some(Found {
         plain: told.is_file(),
         link: told.is_symlink(),

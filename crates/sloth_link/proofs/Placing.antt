@@ -15,7 +15,7 @@ use Rattle.code_rules.specs.WellFormed.{WellFormed}
 use Rattle.sloth_base.specs.declared.app.App.{App}
 use Rattle.sloth_base.specs.declared.config.Config.{Config}
 use Rattle.sloth_base.specs.declared.image.Image.{Image}
-use Rattle.sloth_base.specs.declared.places.Places.{Places}
+use Rattle.sloth_base.specs.declared.limits.Places.{Places}
 use Rattle.sloth_link.specs.Standing.{HasItemsInPlace, HasNames}
 
 abbrev name_of : TaskDecl → List ℕ

@@ -5,7 +5,7 @@ use Rattle.sloth_base.specs.declared.app.App.{App}
 use Rattle.sloth_base.specs.declared.config.Config.{Config}
 use Rattle.sloth_base.specs.declared.image.Image.{Image}
 use Rattle.sloth_base.specs.declared.image.Mark.{Mark}
-use Rattle.sloth_base.specs.declared.places.Places.{Places}
+use Rattle.sloth_base.specs.declared.limits.Places.{Places}
 use Rattle.sloth_base.specs.MemoryMap.{memory_base}
 use Rattle.rv32_expand.specs.Expansion.{expansion, item_address}
 use Rattle.rv32_expand.specs.InPlace.{CodeAt, IsAppItem, IsBodyName, item_mark}

@@ -23,10 +23,8 @@ ghost use Rattle.sloth_link.specs.Items.{item_block, items_of, item_blocks};
 use mem_map::{data_zone, mark, marks, write, write_blocks};
 use rv32_expand::{expand, item_address};
 use rv32_instr::{Block, Instr};
-use sloth_base::declared_names::declared_names;
-use sloth_base::{
-    AlarmDecl, App, Config, Image, Item, List, MEMORY_BASE, Mark, NoMemory, Places, Result,
-};
+use sloth_base::config::declared_names;
+use sloth_base::{AlarmDecl, App, Config, Image, Item, List, MEMORY_BASE, Mark, Places, Result};
 use sloth_region::{Map, alarm_left};
 use std::alloc::{AllocError, Global};
 use text_pieces::push;
@@ -56,7 +54,6 @@ pub fn are_in_range(blocks: &[Block])
     }
 }
 
-// Writes the blocks, the items and the bytes.
 fn write_all(memory: &mut [u8], blocks: &[Block], items: &[Block], symbols: &[Datum])
     requires room { HaveRoom (length memory.old) (blocks.now ++ items.now) symbols.now }
     ensures { memory.new ≡ linked_memory memory.old (sections_of (blocks.now ++ items.now) symbols.now) }
@@ -73,7 +70,6 @@ fn are_bytes(bytes: &[u8])
     let _count = bytes.len();
 }
 
-// So many zeros.
 fn zeros(alloc: Global, size: usize) -> Result<Vec<u8>, AllocError>
     ensures is { IfOk result (λ zeros. zeros.items ≡ replicate size 0) }
     ensures long { IfOk result (λ zeros. vec_len zeros ≡ size) }
@@ -83,7 +79,6 @@ fn zeros(alloc: Global, size: usize) -> Result<Vec<u8>, AllocError>
     Ok(zeros)
 }
 
-// The memory.
 fn memory(
     alloc: Global,
     blocks: &[Block],
@@ -106,7 +101,7 @@ fn link_all(
     items: &[Block],
     symbols: &[Datum],
     size: usize,
-) -> Result<Linked, NoMemory>
+) -> Result<Linked>
     requires room { HaveRoom size (blocks.now ++ items.now) symbols.now }
     requires marks { HaveOwnAddresses (marks_of (blocks.now ++ items.now)) }
     ensures range { All (λ b. All InRange b.code) (blocks.now ++ items.now) }
@@ -139,7 +134,7 @@ fn memory_size(map: &Map) -> usize
 }
 
 // The words of the alarms, and the bytes of the symbols.
-fn all_data(alloc: Global, config: &Config, app: &App, map: &Map) -> Result<Vec<Datum>, NoMemory>
+fn all_data(alloc: Global, config: &Config, app: &App, map: &Map) -> Result<Vec<Datum>>
     requires few { length config.now.alarms ≤ alarm_limit }
     requires symbols { length map.now.places.symbols ≡ length app.now.symbols }
     ensures { IfOk result (λ all. all.items ≡ all_data config.now app.now map.now) }
@@ -150,14 +145,13 @@ fn all_data(alloc: Global, config: &Config, app: &App, map: &Map) -> Result<Vec<
     Ok(all)
 }
 
-// The memory and the marks of well-formed task code by its map.
 fn link_memory(
     alloc: Global,
     blocks: &[Block],
     app: &App,
     config: &Config,
     map: &Map,
-) -> Result<Linked, NoMemory>
+) -> Result<Linked>
     requires { MayLink config.now app.now map.now blocks.now }
     ensures { IfOk result (λ linked. HasMemory config.now app.now map.now blocks.now linked.memory linked.marks) }
 {
@@ -170,13 +164,7 @@ fn link_memory(
 /// The image of well-formed task code by its map: the blocks of routines at their addresses, each item at its address
 /// with its mark, each symbol's bytes at its address, the time and the cycle of each alarm in its words, and zeros
 /// elsewhere; the marks of the blocks and items by rising addresses; and the names.
-pub fn link(
-    alloc: Global,
-    blocks: &[Block],
-    app: &App,
-    config: &Config,
-    map: &Map,
-) -> Result<Image, NoMemory>
+pub fn link(alloc: Global, blocks: &[Block], app: &App, config: &Config, map: &Map) -> Result<Image>
     requires { MayLink config.now app.now map.now blocks.now }
     ensures items { IfOk result (λ image. ItemsInPlace image config.now app.now) }
     ensures stand { IfOk result (λ image. HasItemsInPlace app.now map.now.places image.memory image.marks) }
@@ -217,11 +205,8 @@ pub fn write_data(memory: &mut [u8], symbols: &[Datum])
     ensures { memory.new ≡ linked_memory memory.old (map datum_section symbols.now) }
 {
     for datum in symbols {
-        write(
-            memory,
-            (datum.at - MEMORY_BASE) as usize,
-            datum.bytes.items(),
-        );
+        let at = (datum.at - MEMORY_BASE) as usize;
+        write(memory, at, datum.bytes.items());
     }
 }
 
@@ -234,12 +219,9 @@ pub fn symbols(alloc: Global, app: &App, places: &Places) -> Result<Vec<Datum>>
     let declared = app.symbols.items();
     let addresses = places.symbols.items();
     for index in 0..declared.len() {
-        let bytes = Vec::from_slice(alloc, declared[index].bytes.items())?;
-        let datum = Datum {
-            at: addresses[index],
-            bytes: List::from_vec(bytes),
-        };
-        push(&mut symbols, datum)?;
+        let bytes = List::from_vec(Vec::from_slice(alloc, declared[index].bytes.items())?);
+        let at = addresses[index];
+        push(&mut symbols, Datum { at, bytes })?;
     }
     Ok(symbols)
 }
@@ -303,7 +285,6 @@ fn one(
     })
 }
 
-// The items of a function.
 fn items_in(app: &App, func: u32) -> &[Item]
     requires { func < length app.now.funcs }
     ensures { result.now ≡ (function app.now func).items }
@@ -311,7 +292,6 @@ fn items_in(app: &App, func: u32) -> &[Item]
     app.funcs.items()[func as usize].items.items()
 }
 
-// The blocks of the items of a function.
 fn of_function(alloc: Global, func: u32, app: &App, places: &Places) -> Result<Vec<Block>>
     requires verified { IsVerified app.now }
     requires exists { func < length app.now.funcs }

@@ -3,7 +3,8 @@ ghost use Rattle.std.specs.Prelude.{◌≡◌, ◌<◌, ◌≤◌, pos};
 ghost use Rattle.sloth_base.specs.Limits.{task_limit, counter_limit, alarm_limit};
 ghost use Rattle.sloth_base.specs.ConfigRange.{scheduler_number};
 ghost use Rattle.sloth_base.specs.MemoryMap.{line_count};
-ghost use Rattle.sloth_region.specs.Layout.{active, events, wait, counter_value, alarm_left, alarm_cycle, resume, saved_level, pending_byte, enabled_byte, level_byte};
+ghost use Rattle.sloth_region.specs.Layout.{active, events, wait, counter_value, alarm_left, alarm_cycle, resume};
+ghost use Rattle.sloth_region.specs.Layout.{saved_level, pending_byte, enabled_byte, level_byte};
 
 use sloth_base::{ENABLED_OFFSET, LEVELS_OFFSET};
 

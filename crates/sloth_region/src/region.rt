@@ -63,10 +63,13 @@ impl Region {
         requires some { 1 ≤ len }
         requires word { (align ≡ 4) ⊎ (align ≡ 16) }
         requires room { length self.old.placed < 96 }
-        ensures next { IfOk result (λ extent. extent ≡ record { base = aligned (first_free_address self.old.base self.old.placed) align; len = len }) }
-        ensures placed { IfOk result (λ extent. self.new ≡ record self.old { placed = self.old.placed ++ extent ∷ [] }) }
+        ensures next { IfOk result (λ extent. extent ≡ record
+            { base = aligned (first_free_address self.old.base self.old.placed) align; len = len }) }
+        ensures placed { IfOk result (λ extent. self.new ≡ record self.old
+            { placed = self.old.placed ++ extent ∷ [] }) }
         ensures inside { IfOk result (λ extent. extent.base + extent.len ≤ self.old.end) }
-        ensures full { IsErr result → self.old.end < aligned (first_free_address self.old.base self.old.placed) align + len }
+        ensures full { IsErr result → self.old.end < aligned (first_free_address self.old.base self.old.placed) align
+            + len }
         ensures unchanged { IsErr result → self.new ≡ self.old }
     {
         let free = self.free;

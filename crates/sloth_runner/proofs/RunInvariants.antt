@@ -7,7 +7,7 @@ use Rattle.observe.specs.declared.observing.Observer.{Observer}
 use Rattle.sloth_base.specs.declared.image.Image.{Image}
 use Rattle.sloth_io.specs.Sink.{Output, output_with}
 use Rattle.trace_text.specs.Texts.{text_after, ends_idle}
-use Rattle.trace_text.specs.declared.summary.Form.{Form}
+use Rattle.trace_text.specs.declared.events.Form.{Form}
 use Rattle.sim_induction.specs.Sound.{events_of}
 use Rattle.sloth_runner.specs.declared.runner.Printer.{Printer}
 use Rattle.sloth_runner.specs.declared.runner.Runner.{Runner}

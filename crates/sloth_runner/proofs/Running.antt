@@ -7,8 +7,8 @@ use Rattle.sloth_base.specs.declared.service.Stamped.{Stamped}
 use Rattle.sloth_io.specs.Sink.{Output, output_with, GainsPart}
 use Rattle.sloth_io.proofs.Gains.{gains-gains, gains-nil, part-behind}
 use Rattle.trace_text.specs.Texts.{text_after, text_in, ends_idle}
-use Rattle.trace_text.specs.declared.summary.Form.{Form}
-use Rattle.trace_text.specs.declared.summary.Form.TheVariants as form
+use Rattle.trace_text.specs.declared.events.Form.{Form}
+use Rattle.trace_text.specs.declared.events.Form.TheVariants as form
 use Rattle.trace_text.proofs.Appends.{text_after-append}
 use Rattle.observe.specs.Observe.{observe, view_of_image}
 use Rattle.observe.proofs.Growing.{observe-front, observe-nothing}

@@ -8,7 +8,7 @@ use Rattle.sloth_base.specs.declared.service.Stamped.{Stamped}
 use Rattle.sloth_base.specs.declared.numbers.Step.{Step}
 use Rattle.sloth_io.specs.Sink.{Output, output_with, GainsPart}
 use Rattle.trace_text.specs.Texts.{text_after, text_in, ends_idle}
-use Rattle.trace_text.specs.declared.summary.Form.{Form}
+use Rattle.trace_text.specs.declared.events.Form.{Form}
 use Rattle.observe.specs.Observe.{view_of_image}
 use Rattle.observe.specs.Progress.{HasProgress, remaining, view_of, arrivals_of, expected_count, arrivals_from, arrivals_behind}
 use Rattle.sim_induction.specs.Sound.{events_of}
@@ -16,7 +16,7 @@ use Rattle.rv32_machine.specs.Start.{start}
 use Rattle.rv32_machine.specs.Advance.{Goes, Halts, advance}
 use Rattle.sloth_base.specs.Take.{execution_state}
 use Rattle.sloth_base.specs.Owners.{owners_named}
-use Rattle.rv32_instr.specs.declared.effect.Stop.{Stop}
+use Rattle.rv32_instr.specs.declared.encoding.Stop.{Stop}
 use Rattle.rv32_machine.specs.Run.{Stopping, moment, state_with_arrivals, run, steps_of, state_after, stop_of}
 use Rattle.sloth_runner.specs.Moments.{AreLines, sloth_state}
 use Rattle.sloth_runner.specs.declared.runner.Halt.{Halt}

@@ -14,7 +14,6 @@ use sloth_base::{Arrival, Image, Result, Stamped};
 use std::alloc::Global;
 use text_pieces::push;
 
-// Adds all finished events.
 fn add_events(observer: &mut Observer, events: &mut Vec<Stamped>) -> Result<()>
     ensures added { OnOk result (events.new.items ≡ events.old.items ++ remaining observer.old) }
     ensures drained { OnOk result (remaining observer.new ≡ []) }
@@ -50,17 +49,12 @@ impl<'a> Runner<'a> {
 }
 
 /// The events of n instructions, at most `COUNT_LIMIT`, of a run of an image.
-pub fn run_events(
-    alloc: Global,
-    image: &Image,
-    arrivals: &[Arrival],
-    n: u32,
-) -> Result<Vec<Stamped>>
+pub fn run_events(alloc: Global, image: &Image, coming: &[Arrival], n: u32) -> Result<Vec<Stamped>>
     requires format { InFormat image.now }
-    requires arrivals { AreArrivals (owners_named image.now) arrivals.now }
+    requires arrivals { AreArrivals (owners_named image.now) coming.now }
     requires few { n ≤ count_limit }
-    ensures { IfOk result (λ events. events.items ≡ events_of image.now arrivals.now n) }
+    ensures { IfOk result (λ events. events.items ≡ events_of image.now coming.now n) }
 {
-    let mut runner = Runner::new(alloc, image, arrivals)?;
+    let mut runner = Runner::new(alloc, image, coming)?;
     runner.events(alloc, n)
 }

@@ -8,7 +8,6 @@
 //! states there. Definitions: `specs/Runner`, `specs/TaskStates`, `specs/Moments`.
 #![tactic(auto)]
 
-pub mod arrivals;
 pub mod events;
 pub mod laws;
 pub mod runner;

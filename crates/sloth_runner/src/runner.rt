@@ -1,5 +1,5 @@
-//! Runs an image, and prints what is observed.
-ghost use Rattle.std.specs.Prelude.{◌≡◌, ◌<◌, ◌≤◌, ◌+◌, ◌∷◌, ◌++◌, [], List, OnOk, OnErr, IfOk, IfErr, IfSome, IfNone, OnSome, length};
+//! Runs an image, and prints what is observed. The arrivals of a moment.
+ghost use Rattle.std.specs.Prelude.{◌≡◌, ◌<◌, ◌≤◌, ◌+◌, ◌∷◌, ◌++◌, [], List, OnOk, OnErr, IfOk, IfErr, IfSome, IfNone, OnSome, length, map, take, drop};
 ghost use Rattle.sloth_base.specs.ImageRange.{InFormat};
 ghost use Rattle.sloth_base.specs.Arrivals.{AreArrivals};
 ghost use Rattle.sloth_base.specs.Owners.{owners_named};
@@ -11,9 +11,9 @@ ghost use Rattle.rv32_machine.specs.Advance.{step_of};
 ghost use Rattle.sloth_base.specs.declared.numbers.Step.{Step as AnyStep};
 ghost use Rattle.sloth_base.specs.declared.service.Stamped.{Stamped as AnyStamped};
 ghost use Rattle.sloth_runner.specs.Runner.{lines_of};
-ghost use Rattle.sloth_runner.specs.Moments.{IsHandedOut, sloth_state};
+ghost use Rattle.sloth_runner.specs.Moments.{IsHandedOut, sloth_state, AreLines};
+ghost use Rattle.sloth_base.specs.Arrive.{state_arrive};
 
-use crate::arrivals::arrive_front;
 use observe::{Observer, passing};
 use rv32_machine::{Machine, SlothBus, Step, StepFront, Stop, blank_step};
 use sloth_base::{Arrival, Event, Image, Result, Stamped};
@@ -70,7 +70,6 @@ impl<'a> Printer<'a> {
         out.put(line.bytes())
     }
 
-    // Puts the lines of all finished events.
     fn drain<S: Sink>(&mut self, observer: &mut Observer, out: &mut S) -> Result<(), SinkFault>
         requires { InFormat self.old.image.now }
         ensures ok { OnOk result (S.seen out.new ≡ output_with (S.seen out.old) (lines_of self.old (remaining observer.old))) }
@@ -163,25 +162,6 @@ impl<'a> Runner<'a> {
         self.coming = arrive_front(&mut self.machine, self.coming, due);
     }
 
-    // One instruction, unless the machine stops at it. Its record is kept.
-    #[inline(always)]
-    fn record(&mut self) -> Result<(), Halt>
-        requires few { count_of self.old < count_limit }
-        ensures ok { OnOk result (HasExecuted self.old self.new self.new.shown) }
-        ensures err { IfErr result (HasHalt self.old) }
-        ensures coming { self.new.coming.now ≡ self.old.coming.now }
-        ensures image { image_of self.new ≡ image_of self.old }
-        ensures observer { self.new.observer ≡ self.old.observer }
-    {
-        match self.machine.step_into(&mut self.shown) {
-            Ok(()) => Ok(()),
-            Err(stop) => Err(Halt {
-                pc: self.machine.next_pc(),
-                stop,
-            }),
-        }
-    }
-
     /// One instruction, unless the machine stops at it.
     pub fn execute(&mut self) -> Result<Step, Halt>
         requires few { count_of self.old < count_limit }
@@ -191,9 +171,12 @@ impl<'a> Runner<'a> {
         ensures image { image_of self.new ≡ image_of self.old }
         ensures observer { self.new.observer ≡ self.old.observer }
     {
-        match self.record() {
+        match self.machine.step_into(&mut self.shown) {
             Ok(()) => Ok(self.shown),
-            Err(halt) => Err(halt),
+            Err(stop) => Err(Halt {
+                pc: self.machine.next_pc(),
+                stop,
+            }),
         }
     }
 
@@ -316,4 +299,31 @@ impl<'a> Runner<'a> {
         }
         Ok(RunEnd::Whole)
     }
+}
+
+fn arrive(machine: &mut Machine<SlothBus>, arrivals: &[Arrival])
+    requires { AreLines arrivals.now }
+    ensures state { sloth_state machine.new ≡ state_arrive (map (λ arrival. arrival.line) arrivals.now) (sloth_state machine.old) }
+    ensures count { machine.new.count ≡ machine.old.count }
+{
+    for arrival in arrivals {
+        machine.arrive(arrival.line);
+    }
+}
+
+/// The lines of the first arrivals, so many of them, become pending. Those behind them are given back.
+pub fn arrive_front<'a>(
+    machine: &mut Machine<SlothBus>,
+    coming: &'a [Arrival],
+    due: usize,
+) -> &'a [Arrival]
+    requires due { due ≤ length coming.now }
+    requires lines { AreLines coming.now }
+    ensures state { sloth_state machine.new ≡ state_arrive (map (λ arrival. arrival.line) (take due coming.now)) (sloth_state machine.old) }
+    ensures count { machine.new.count ≡ machine.old.count }
+    ensures behind { result.now ≡ drop due coming.now }
+{
+    let (here, behind) = coming.split_at(due);
+    arrive(machine, here);
+    behind
 }

@@ -6,7 +6,6 @@ ghost use Rattle.trace_text.specs.Summary.{kind_line, summary_text};
 use sloth_io::{Sink, SinkFault};
 use trace_text::{KINDS, kind_line};
 
-// Puts the line of a kind.
 fn put_kind<S: Sink>(counts: &[u32; KINDS], kind: usize, out: &mut S) -> Result<(), SinkFault>
     requires { kind < 10 }
     ensures ok { OnOk result (S.seen out.new ≡ output_with (S.seen out.old) (kind_line counts.now kind)) }

@@ -36,7 +36,6 @@ pub enum Sight {
     Stopped { pc: u32, stop: Stop },
 }
 
-// Whether the line of each counter is pending.
 fn counters_pending(bus: &SlothBus) -> [bool; COUNTER_LIMIT]
     ensures { result ≡ pending_counters_in bus.now }
 {

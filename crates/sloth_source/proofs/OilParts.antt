@@ -5,8 +5,8 @@ use Rattle.sloth_base.specs.declared.refusal.Refusal.{Refusal}
 use Rattle.sloth_base.specs.declared.refusal.Part.TheVariants.{Oil}
 use Rattle.sloth_base.specs.declared.refusal.Code.{Code}
 use Rattle.oil_parse.specs.Pieces.{TextPiece}
-use Rattle.oil_parse.specs.declared.pieces.Meaning.{Meaning}
-use Rattle.oil_parse.specs.declared.pieces.Meaning.TheVariants as mean
+use Rattle.oil_parse.specs.declared.lexer.Meaning.{Meaning}
+use Rattle.oil_parse.specs.declared.lexer.Meaning.TheVariants as mean
 use Rattle.oil_parse.specs.Tokens.{Lexeme, FaultBy, FaultOf, TextFault, meaning, line_ends}
 use Rattle.oil_parse.specs.declared.tree.OilTree.{OilTree}
 use Rattle.oil_parse.specs.declared.tree.OilObject.{OilObject}

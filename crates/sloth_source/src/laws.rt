@@ -19,7 +19,8 @@ pub fn one_verdict()
     ensures not_both { (oil src : List ℕ) (config : Config) (app : App) (refusal : Refusal) →
         AreAccepted oil src config app → FirstRefusal oil src refusal → ⊥ }
     ensures not_neither { (oil src : List ℕ) →
-        ((config : Config) (app : App) → AreAccepted oil src config app → ⊥) → ((refusal : Refusal) → FirstRefusal oil src refusal → ⊥) → ⊥ }
+        ((config : Config) (app : App) → AreAccepted oil src config app → ⊥)
+        → ((refusal : Refusal) → FirstRefusal oil src refusal → ⊥) → ⊥ }
 {}
 
 /// The same before the rules of task code are judged: texts have one meaning at most, and one refusal at most, and not
@@ -27,9 +28,12 @@ pub fn one_verdict()
 pub fn one_ranked()
     ensures meaning { (oil src : List ℕ) (config other : Config) (app another : App) →
         HasRanks oil src config app → HasRanks oil src other another → (config ≡ other) × (app ≡ another) }
-    ensures refusal { (oil src : List ℕ) (refusal other : Refusal) → EarlyRefusal oil src refusal → EarlyRefusal oil src other → refusal ≡ other }
+    ensures refusal { (oil src : List ℕ) (refusal other : Refusal) →
+        EarlyRefusal oil src refusal → EarlyRefusal oil src other → refusal ≡ other }
     ensures not_both { (oil src : List ℕ) (config : Config) (app : App) (refusal : Refusal) →
         HasRanks oil src config app → EarlyRefusal oil src refusal → ⊥ }
-    ensures accepted { (oil src : List ℕ) (config : Config) (app : App) → AreAccepted oil src config app → HasRanks oil src config app }
-    ensures first { (oil src : List ℕ) (refusal : Refusal) → EarlyRefusal oil src refusal → FirstRefusal oil src refusal }
+    ensures accepted { (oil src : List ℕ) (config : Config) (app : App) →
+        AreAccepted oil src config app → HasRanks oil src config app }
+    ensures first { (oil src : List ℕ) (refusal : Refusal) →
+        EarlyRefusal oil src refusal → FirstRefusal oil src refusal }
 {}

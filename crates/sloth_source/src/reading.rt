@@ -13,7 +13,7 @@ ghost use Rattle.call_graph.specs.Ranks.{RanksOf};
 ghost use Rattle.sloth_source.specs.RankedTexts.{HasRanks, EarlySourceErrorIs, EarlyErrorIs};
 ghost use Rattle.oil_parse.specs.Text.{HasTree};
 ghost use Rattle.sloth_source.specs.OilText.{OilText, OilErrorIs};
-ghost use Rattle.sloth_source.specs.Checked.{IsBounded, IsChecked, RulesErrorIs};
+ghost use Rattle.sloth_source.specs.Checked.{IsBounded, RulesErrorIs};
 
 use asm_parse::parse_app;
 use call_graph::{Ranks, ranks};
@@ -62,7 +62,6 @@ struct Code {
     ranks: Ranks,
 }
 
-// The task code of a text, for a configuration.
 fn read_code(alloc: Global, text: &[u8], config: &Config) -> Result<Code, BuildError>
     requires text { length text.now < 4294967295 }
     requires config { InRange config.now }
@@ -95,7 +94,6 @@ pub fn read_ranked(alloc: Global, oil: &[u8], src: &[u8]) -> Result<Ranked, Buil
     Ok(Ranked { config, app, ranks })
 }
 
-// The tree of a text.
 fn read_tree(alloc: Global, text: &[u8]) -> Result<OilTree, BuildError>
     requires { length text.now < 4294967295 }
     ensures tree { IfOk result (HasTree text.now) }
@@ -117,7 +115,6 @@ pub fn read_config(alloc: Global, text: &[u8]) -> Result<Config, BuildError>
     resolve(alloc, &tree)
 }
 
-// Task code that is verified, with the bytes of its stacks.
 fn bounded(alloc: Global, config: Config, app: App, ranks: &Ranks) -> Result<Source, BuildError>
     requires in_range { AppInRange config app }
     requires belong { RanksOf app ranks.now }
@@ -150,30 +147,16 @@ impl Drop for Checked {
     }
 }
 
-// Task code that is verified, with the ranks of its functions.
-fn checked_code(
-    alloc: Global,
-    config: Config,
-    app: App,
-    ranks: Ranks,
-) -> Result<Checked, BuildError>
-    requires in_range { AppInRange config app }
-    requires belong { RanksOf app ranks }
-    ensures checked { IfOk result (λ checked. IsChecked config app checked.verified checked.ranks) }
-    ensures refused { IfErr result (RulesErrorIs config app) }
-{
-    let verified = verify(alloc, config, app, &ranks)?;
-    Ok(Checked { verified, ranks })
-}
-
 /// What two texts of at most 4,294,967,294 bytes mean, or their first refusal (O1 to O15, A1 to A7, V1 to V12).
 pub fn read_checked(alloc: Global, oil: &[u8], src: &[u8]) -> Result<Checked, BuildError>
     requires oil { length oil.now < 4294967295 }
     requires src { length src.now < 4294967295 }
-    ensures accepted { IfOk result (λ checked. AreAccepted oil.now src.now checked.verified.config checked.verified.app) }
+    ensures accepted { IfOk result
+        (λ checked. AreAccepted oil.now src.now checked.verified.config checked.verified.app) }
     ensures belong { IfOk result (λ checked. RanksOf checked.verified.app checked.ranks) }
     ensures refused { IfErr result (SourcesErrorIs oil.now src.now) }
 {
     let Ranked { config, app, ranks } = read_ranked(alloc, oil, src)?;
-    checked_code(alloc, config, app, ranks)
+    let verified = verify(alloc, config, app, &ranks)?;
+    Ok(Checked { verified, ranks })
 }

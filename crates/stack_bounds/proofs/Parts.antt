@@ -6,7 +6,7 @@ use Rattle.sloth_base.specs.declared.config.Config.{Config}
 use Rattle.sloth_base.specs.declared.app.App.{App}
 use Rattle.sloth_base.specs.Named.{declaration}
 use Rattle.call_graph.specs.declared.lists.Ranks.{Ranks}
-use Rattle.sloth_base.specs.declared.places.Bounds.{Bounds}
+use Rattle.sloth_base.specs.declared.limits.Bounds.{Bounds}
 use Rattle.sloth_base.specs.Limits.{task_limit}
 use Rattle.stack_bounds.specs.Bounds.{total, IsGreatest, IsBasic, MayBePreempted, AreStacked, AreBounds, AreParts}
 use Rattle.call_graph.specs.Tables.{sum_below, most_stacked, AreOffsets}

@@ -1,7 +1,8 @@
 //! The most bytes that each function's calls need. The most bytes that all basic tasks need on one stack.
 ghost use Rattle.std.specs.Prelude.{◌≡◌, ℕ, ◌<◌, max, length, get_or, IfOk};
 ghost use Rattle.sloth_base.specs.Named.{no_item};
-ghost use Rattle.call_graph.specs.Tables.{most_called, table_entry, func_of, IsTable, IsKnownCall, IsTableInLimit, AreCallable, bytes_with_lower, most_stacked, AreStacks};
+ghost use Rattle.call_graph.specs.Tables.{most_called, table_entry, func_of, IsTable, IsKnownCall, IsTableInLimit};
+ghost use Rattle.call_graph.specs.Tables.{AreCallable, bytes_with_lower, most_stacked, AreStacks};
 
 use call_graph::{bytes_below, bytes_called};
 use sloth_base::{Func, Item, Result, TaskDecl};
@@ -15,7 +16,6 @@ pub fn larger(one: u32, other: u32) -> u32
     if one < other { other } else { one }
 }
 
-/// The most bytes of calls by one of these items.
 fn most_called(funcs: &[Func], table: &[u32], items: &[Item]) -> u32
     requires known { (i : ℕ) → i < length items.now → IsKnownCall funcs.now (get_or items.now i no_item).op }
     requires frames { AreCallable funcs.now }
@@ -44,7 +44,6 @@ fn deeper(alloc: Global, funcs: &[Func], table: &[u32]) -> Result<Vec<u32>>
     Ok(next)
 }
 
-/// So many zeros.
 fn no_calls(alloc: Global, count: usize) -> Result<Vec<u32>>
     ensures count { IfOk result (λ table. length table.items ≡ count) }
     ensures none { IfOk result (λ table. (f : ℕ) → table_entry table.items f ≡ 0) }
@@ -68,7 +67,6 @@ pub fn most_calls(alloc: Global, funcs: &[Func]) -> Result<Vec<u32>>
     Ok(table)
 }
 
-/// The bytes of a basic task with all that may stand below it, 0 for an extended task.
 fn bytes_with_lower(tasks: &[TaskDecl], yielding: &[bool], bytes: &[u32], number: usize) -> u32
     requires stacks { AreStacks tasks.now yielding.now bytes.now }
     requires known { number < length tasks.now }

@@ -10,21 +10,9 @@ ghost use Rattle.call_graph.specs.Tables.{AreCallable, HasTaskBody, IsTableInLim
 use call_graph::{Ranks, offsets_of_tasks, ranks};
 use sloth_base::{App, Bounds, BuildError, Config, Func, NoMemory, Result, TaskDecl, WORD};
 use std::alloc::Global;
-use task_verify::tasks::is_task_body;
+use task_verify::held_resources::is_task_body;
+use text_pieces::push;
 
-// What the calls of well-formed task code reach.
-fn reached(alloc: Global, config: &Config, app: &App) -> Result<Ranks>
-    requires { WellFormed config.now app.now }
-    ensures { IfOk result (RanksOf app.now) }
-{
-    match ranks(alloc, app) {
-        Ok(ranks) => Ok(ranks),
-        Err(BuildError::Memory) => Err(NoMemory),
-        Err(BuildError::Refused(_)) => unreachable!(),
-    }
-}
-
-// The parts, by the ranks of the functions.
 fn ranked_offsets(
     alloc: Global,
     config: &Config,
@@ -49,20 +37,18 @@ pub fn offsets(alloc: Global, config: &Config, app: &App, bounds: &Bounds) -> Re
     requires bounds { AreBounds config.now app.now bounds.now }
     ensures { IfOk result (λ offsets. AreParts config.now app.now bounds.now offsets.items) }
 {
-    let ranks = reached(alloc, config, app)?;
-    ranked_offsets(alloc, config, app, &ranks, bounds)
+    match ranks(alloc, app) {
+        Ok(ranks) => ranked_offsets(alloc, config, app, &ranks, bounds),
+        Err(BuildError::Memory) => Err(NoMemory),
+        Err(BuildError::Refused(_)) => unreachable!(),
+    }
 }
 
 /// The bytes of a context, 32 words: where a task goes on, what was below it, and its registers.
 const CONTEXT: u32 = 128;
 
 /// The bytes of each task: the frame of its body, the calls that need most, and a context.
-pub fn bytes_of_tasks(
-    alloc: Global,
-    funcs: &[Func],
-    table: &[u32],
-    count: usize,
-) -> Result<Vec<u32>>
+pub fn task_bytes(alloc: Global, funcs: &[Func], table: &[u32], count: usize) -> Result<Vec<u32>>
     requires frames { AreCallable funcs.now }
     requires small { IsTableInLimit funcs.now table.now }
     requires bodies { (t : ℕ) → t < count → HasTaskBody funcs.now t }
@@ -73,9 +59,8 @@ pub fn bytes_of_tasks(
     let mut bytes = Vec::new(alloc);
     for task in 0..count {
         let body = body_of(funcs, task);
-        bytes
-            .push(WORD * funcs[body].frame_words + table[body] + CONTEXT)
-            .map_err(|_| NoMemory)?;
+        let size = WORD * funcs[body].frame_words + table[body] + CONTEXT;
+        push(&mut bytes, size)?;
     }
     Ok(bytes)
 }
@@ -103,9 +88,8 @@ pub fn yielding_tasks(
 {
     let mut yielding = Vec::new(alloc);
     for (number, task) in tasks.iter().enumerate() {
-        yielding
-            .push(gives_way(task, pauses[body_of(funcs, number)]))
-            .map_err(|_| NoMemory)?;
+        let pauses = pauses[body_of(funcs, number)];
+        push(&mut yielding, gives_way(task, pauses))?;
     }
     Ok(yielding)
 }

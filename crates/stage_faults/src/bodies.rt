@@ -57,14 +57,9 @@ fn add_header_faults<'t>(
 
 // ---- lines
 
-fn unknown_operand<'t>(
-    scope: &Scope,
-    labels: &Names,
-    mnemonic: Mnemonic,
-    operands: &'t [Operand],
-) -> &'t [u8] {
+fn unknown<'t>(scope: &Scope, labels: &Names, word: Mnemonic, operands: &'t [Operand]) -> &'t [u8] {
     for (place, operand) in operands.iter().enumerate() {
-        if scope.is_lacking(labels, kind_of(mnemonic, place), operand) {
+        if scope.is_lacking(labels, kind_of(word, place), operand) {
             return written(operand).unwrap_or(b"");
         }
     }
@@ -72,20 +67,13 @@ fn unknown_operand<'t>(
 }
 
 // The name that A5 concerns: that of a doubled label, else the first that names nothing.
-fn misnamed<'t>(
-    scope: &Scope,
-    labels: &Names,
-    first: Option<u32>,
-    line: &'t SourceLine,
-) -> &'t [u8] {
-    match first {
-        Some(_) => name_of(line),
-        None => match line {
-            SourceLine::Statement { mnemonic, operands } => {
-                unknown_operand(scope, labels, *mnemonic, operands.items())
-            },
-            _ => b"",
+fn misnamed<'t>(scope: &Scope, labels: &Names, at: Option<u32>, line: &'t SourceLine) -> &'t [u8] {
+    match line {
+        _ if at.is_some() => name_of(line),
+        SourceLine::Statement { mnemonic, operands } => {
+            unknown(scope, labels, *mnemonic, operands.items())
         },
+        _ => b"",
     }
 }
 

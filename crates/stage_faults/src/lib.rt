@@ -4,19 +4,11 @@
 #![tactic(auto)]
 
 mod bodies;
-mod lines;
-mod names;
 mod narrow;
-mod notes;
+pub mod notes;
 mod oil_attributes;
 mod oil_blocks;
 mod oil_objects;
-mod oil_stage;
-mod oil_tasks;
-mod symbols;
-pub mod told_list;
 
-pub use names::name_notes;
-pub use notes::{Note, Notes, Position, line_notes};
-pub use oil_stage::model_notes;
-pub use told_list::{order, put_in_order};
+pub use notes::{Note, Notes, Position, line_notes, name_notes, order, put_in_order};
+pub use oil_objects::model_notes;

@@ -11,7 +11,7 @@ use crate::notes::{add_following, add_named, add_placed};
 use crate::oil_objects::Tables;
 use crate::{Notes, Position};
 use oil_parse::{OilAttr, OilValue};
-use oil_rules::attribute_faults::is_unlisted;
+use oil_rules::judging::is_unlisted;
 use oil_rules::{Front, is_refused, opened, place_by, refers_to_none};
 use oil_table::{Attribute, EarlierUses, Limits, Place, attribute_of, is_beyond, is_second};
 use sloth_base::{Code, Result};

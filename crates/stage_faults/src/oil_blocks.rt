@@ -74,15 +74,8 @@ fn add_inner_faults<'t>(
     let mut before = EarlierUses::new(alloc, 1);
     for (number, attr) in attrs.iter().enumerate() {
         let own = head.behind(number + 1);
-        add_inner_fault(
-            notes,
-            limits,
-            place,
-            block,
-            &before,
-            Spot { own, end },
-            attr,
-        )?;
+        let spot = Spot { own, end };
+        add_inner_fault(notes, limits, place, block, &before, spot, attr)?;
         before = before.with(&attrs[..=number], attr)?;
     }
     Ok(())
@@ -100,15 +93,8 @@ fn add_block<'t>(
 {
     let place = block_place(Place::Alarm, block.head());
     let inner = block.inner();
-    add_inner_faults(
-        alloc,
-        notes,
-        limits,
-        place,
-        &NamedTask::new(tasks, inner),
-        head,
-        inner,
-    )
+    let named = NamedTask::new(tasks, inner);
+    add_inner_faults(alloc, notes, limits, place, &named, head, inner)
 }
 
 fn add_blocks<'t>(

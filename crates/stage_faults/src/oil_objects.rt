@@ -1,24 +1,35 @@
 //! The faults of the objects of a tree, but those in the blocks of alarms. What the objects of a tree are judged by.
-ghost use Rattle.std.specs.Prelude.{◌≡◌, ◌&&◌, nat_lt, true, OnOk};
+//! The faults of an OIL tree's meaning (O7 to O15).
+//! The faults of a task's attributes that rest on other tasks and on events (O13, O15), and events without a bit (O15).
+ghost use Rattle.std.specs.Prelude.{◌≡◌, ◌&&◌, nat_lt, true, OnOk, codes, IfOk};
 ghost use Rattle.sloth_base.specs.declared.refusal.Part.TheVariants.{Oil};
 ghost use Rattle.sloth_base.specs.Search.{Somewhere};
-ghost use Rattle.oil_table.specs.Objects.{is_of_kind, has_scheduler};
-ghost use Rattle.oil_table.specs.Events.{events_of};
+ghost use Rattle.oil_table.specs.Objects.{is_of_kind, has_scheduler, names_of, is_used};
+ghost use Rattle.oil_table.specs.Events.{events_of, BitFault};
 ghost use Rattle.oil_rules.specs.ObjectFaults.{is_known, KindFault};
-ghost use Rattle.stage_faults.specs.Told.{Adds};
-ghost use Rattle.stage_faults.specs.ToldModel.{is_told_above, ToldKnown, ToldInner, ToldObject, ToldTree};
+ghost use Rattle.stage_faults.specs.Told.{Adds, AreAll};
+ghost use Rattle.stage_faults.specs.ToldModel.{is_told_above, ToldKnown, ToldInner, ToldObject, ToldTree, ToldModel};
+ghost use Rattle.oil_rules.specs.TaskFaults.{TaskFault};
+ghost use Rattle.oil_rules.specs.TreeFaults.{TaskFaults};
 
 use crate::notes::{add_bare, add_named, add_placed};
-use crate::oil_attributes::add_attributes;
-use crate::oil_tasks::{add_events, add_of_task};
+use crate::oil_attributes::{add_attributes, value_word};
+use crate::oil_blocks::add_alarms;
 use crate::{Notes, Position};
-use oil_parse::{OilObject, OilTree};
-use oil_rules::{Front, is_above, is_doubled, is_strange_mode, lacks_attribute};
-use oil_table::{CounterLimits, EventTable, is_nowhere, is_of_kind, place_of};
+use oil_parse::{OilAttr, OilObject, OilTree};
+use oil_rules::{
+    Front, References, is_above, is_doubled, is_given_with, is_strange_mode, lacks_attribute,
+    repeats_priority,
+};
+use oil_table::{
+    CounterLimits, EventTable, TaskEvents, events_of, has_scheduler, is_nowhere, is_of_kind,
+    lacks_bit, names_of, number_masks, place_of, taken_more,
+};
 use sloth_base::{
-    ALARM_LIMIT, COUNTER_LIMIT, Code, EVENT_LIMIT, RESOURCE_LIMIT, Result, TASK_LIMIT,
+    ALARM_LIMIT, COUNTER_LIMIT, Code, EVENT_LIMIT, EventDecl, RESOURCE_LIMIT, Result, TASK_LIMIT,
 };
 use std::alloc::Global;
+use text_pieces::Names;
 
 // ---- an object
 
@@ -139,4 +150,130 @@ pub struct Tables<'t> {
     pub counters: &'t CounterLimits<'t>,
     pub scheduler: bool,
     pub events: &'t EventTable<'t>,
+}
+
+fn tabled_notes<'e, 't: 'e>(
+    alloc: Global,
+    tree: &'t OilTree,
+    objects: &'e Front<'e>,
+    counters: &'e CounterLimits<'e>,
+    tasks: &TaskEvents,
+    scheduler: bool,
+    events: &'e EventTable<'e>,
+) -> Result<Notes<'t>>
+    requires objects { objects.now ≡ tree.now.objects }
+    requires counters { counters.now ≡ tree.now.objects }
+    requires tasks { tasks.now ≡ tree.now.objects }
+    requires scheduler { scheduler ≡ has_scheduler tree.now.objects }
+    requires events { events.now ≡ events_of tree.now.objects }
+    ensures { IfOk result (λ notes. AreAll Oil (ToldModel tree.now) notes.items) }
+{
+    let tables = Tables {
+        objects,
+        counters,
+        scheduler,
+        events,
+    };
+    let mut notes = Vec::new(alloc);
+    add_tree(alloc, &mut notes, tree, &tables)?;
+    add_alarms(alloc, &mut notes, tasks, counters, tree.objects.items())?;
+    Ok(notes)
+}
+
+fn notes_with_events<'t>(
+    alloc: Global,
+    tree: &'t OilTree,
+    event_names: &Names,
+    events: &[EventDecl],
+) -> Result<Notes<'t>>
+    requires event_numbers { event_names.now ≡ names_of (codes "EVENT") tree.now.objects }
+    requires events { events.now ≡ events_of tree.now.objects }
+    ensures { IfOk result (λ notes. AreAll Oil (ToldModel tree.now) notes.items) }
+{
+    let objects = tree.objects.items();
+    let events = EventTable::new(events, event_names);
+    let table = Front::of(alloc, objects)?;
+    let counters = CounterLimits::of(alloc, objects)?;
+    let tasks = TaskEvents::of(alloc, objects)?;
+    let scheduler = has_scheduler(objects);
+    tabled_notes(alloc, tree, &table, &counters, &tasks, scheduler, &events)
+}
+
+/// The faults that are told of a tree. O11 of an object and O13 are without names.
+pub fn model_notes<'t>(alloc: Global, tree: &'t OilTree) -> Result<Notes<'t>>
+    ensures { IfOk result (λ notes. AreAll Oil (ToldModel tree.now) notes.items) }
+{
+    let objects = tree.objects.items();
+    let events = events_of(alloc, objects)?;
+    let event_names = names_of(alloc, objects, b"EVENT")?;
+    notes_with_events(alloc, tree, &event_names, events.as_slice())
+}
+
+fn add_task_faults<'t>(
+    notes: &mut Notes<'t>,
+    front: &Front,
+    given: bool,
+    before: &References,
+    attr: &'t OilAttr,
+) -> Result<()>
+    requires { given ≡ is_used before.now.attrs (codes "PRIORITY") }
+    ensures { OnOk result
+        (Adds Oil (TaskFault before.now.events front.now before.now.attrs attr.now) notes.old.items notes.new.items) }
+{
+    let line = attr.line;
+    let repeated = repeats_priority(front, given, attr);
+    add_bare(notes, repeated, line, Code::O13)?;
+    let shared = before.shares_bit(attr);
+    let word = value_word(&attr.value);
+    add_named(notes, shared, line, Code::O15, word, None)
+}
+
+fn add_of_attributes<'e, 't: 'e>(
+    alloc: Global,
+    notes: &mut Notes<'t>,
+    events: &'e EventTable<'e>,
+    front: &Front,
+    attrs: &'t [OilAttr],
+) -> Result<()>
+    ensures { OnOk result
+        (Adds Oil (Somewhere (TaskFault events.now front.now) attrs.now) notes.old.items notes.new.items) }
+{
+    let mut before = References::new(alloc, events);
+    let mut given = false;
+    for (number, attr) in attrs.iter().enumerate() {
+        add_task_faults(notes, front, given, &before, attr)?;
+        given = is_given_with(given, attr);
+        before = before.with(&attrs[..=number], attr)?;
+    }
+    Ok(())
+}
+
+/// O13 and O15 of the attributes of an object, if it is a task.
+pub fn add_of_task<'e, 't: 'e>(
+    alloc: Global,
+    notes: &mut Notes<'t>,
+    events: &'e EventTable<'e>,
+    front: &Front,
+    object: &'t OilObject,
+) -> Result<()>
+    ensures { OnOk result (Adds Oil (TaskFaults events.now front.now object.now) notes.old.items notes.new.items) }
+{
+    if is_of_kind(object, b"TASK") {
+        return add_of_attributes(alloc, notes, events, front, object.attrs.items());
+    }
+    Ok(())
+}
+
+/// O15 of the events that find no free bit.
+pub fn add_events<'t>(notes: &mut Notes<'t>, objects: &'t [OilObject]) -> Result<()>
+    ensures { OnOk result (Adds Oil (Somewhere (BitFault objects.now) objects.now) notes.old.items notes.new.items) }
+{
+    let mut taken = number_masks(objects);
+    for object in objects {
+        let name = object.name.bytes();
+        let lacks = lacks_bit(taken, object);
+        add_named(notes, lacks, object.line, Code::O15, name, None)?;
+        taken = taken_more(taken, object);
+    }
+    Ok(())
 }

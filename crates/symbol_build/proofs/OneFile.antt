@@ -3,12 +3,12 @@ use Rattle.std.proofs.Common.{◌≡◌, ◌∙◌, ℕ, List, sym, ap, subst}
 use Rattle.sloth_base.specs.declared.app.App.{App}
 use Rattle.sloth_base.specs.declared.config.Config.{Config}
 use Rattle.sloth_base.specs.declared.image.Image.{Image}
-use Rattle.sloth_base.specs.declared.places.Bounds.{Bounds}
+use Rattle.sloth_base.specs.declared.limits.Bounds.{Bounds}
 use Rattle.sloth_region.specs.declared.region.Extent.{Extent}
 use Rattle.sloth_region.specs.declared.region.Map.{Map}
 use Rattle.code_rules.specs.WellFormed.{WellFormed}
 use Rattle.map_text.proofs.OneText.{rows_alike, same_bounds}
-use Rattle.map_text.specs.declared.piece_rows.Row.{Row}
+use Rattle.map_text.specs.declared.piece_starts.Row.{Row}
 use Rattle.mem_map.proofs.OnePlan.{AreAlike, one_plan}
 use Rattle.mem_map.specs.Planned.{IsPlanned}
 use Rattle.sloth_source.proofs.Unique.{one_meaning}

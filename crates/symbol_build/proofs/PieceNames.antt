@@ -10,9 +10,9 @@ use Rattle.code_rules.specs.WellFormed.{WellFormed}
 use Rattle.map_text.proofs.ExactRows.{rows_exact}
 use Rattle.map_text.specs.ExactRows.{behind_symbols, exact_rows, function_bytes, row_alone, rows_of}
 use Rattle.map_text.specs.Rows.{has_basic, map_rows, own_rows, extent_row, shared_rows}
-use Rattle.map_text.specs.declared.piece_rows.Kind.{Kind}
-use Rattle.map_text.specs.declared.piece_rows.Kind.TheVariants as kind
-use Rattle.map_text.specs.declared.piece_rows.Row.{Row}
+use Rattle.map_text.specs.declared.piece_starts.Kind.{Kind}
+use Rattle.map_text.specs.declared.piece_starts.Kind.TheVariants as kind
+use Rattle.map_text.specs.declared.piece_starts.Row.{Row}
 use Rattle.mem_map.proofs.Callers.{caller}
 use Rattle.mem_map.specs.Lengths.{wanted_length}
 use Rattle.mem_map.specs.Plan.{code_end, items_at, prologues_at, services_at, symbol_bytes, ticks_at}
@@ -29,7 +29,7 @@ use Rattle.sloth_base.specs.Named.{function, no_function, no_item}
 use Rattle.sloth_base.specs.ServiceCodes.{code_of, object_kind, service_name, service_of}
 use Rattle.sloth_base.specs.declared.app.App.{App}
 use Rattle.sloth_base.specs.declared.config.Config.{Config}
-use Rattle.sloth_base.specs.declared.places.Bounds.{Bounds}
+use Rattle.sloth_base.specs.declared.limits.Bounds.{Bounds}
 use Rattle.sloth_base.specs.declared.service.Service.{Service}
 use Rattle.sloth_base.specs.declared.service.Service.TheVariants as service
 use Rattle.sloth_region.specs.declared.region.Map.{Map}

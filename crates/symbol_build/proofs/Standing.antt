@@ -4,7 +4,7 @@ use Rattle.std.proofs.lemmas.List.{append-nil, drop-drop, drop_at, length-append
 use Rattle.symbol_image.specs.Fields.{text_bytes}
 use Rattle.elf_image.specs.ElfText.{padding}
 use Rattle.image_file.specs.Fields.{four_bytes, two_bytes}
-use Rattle.map_text.specs.declared.borders.Borders.{Borders}
+use Rattle.map_text.specs.declared.piece_starts.Borders.{Borders}
 use Rattle.symbol_image.specs.Headers.{elf_header, segment_headers}
 use Rattle.symbol_image.specs.Layout.{Laid, Section, all_laid, front, laid_with, none_laid, padded, section_header, strings, whole}
 use Rattle.symbol_image.specs.SymbolFile.{laid_parts, part_sections, parts_borders, rows_of, symbol_file}

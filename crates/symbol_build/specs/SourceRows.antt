@@ -3,7 +3,7 @@ use Rattle.std.specs.Prelude.{ℕ, ◌≤◌, List, length}
 use Rattle.sloth_base.specs.Limits.{file_limit}
 use Rattle.sloth_base.specs.declared.app.App.{App}
 use Rattle.sloth_base.specs.declared.config.Config.{Config}
-use Rattle.sloth_base.specs.declared.places.Bounds.{Bounds}
+use Rattle.sloth_base.specs.declared.limits.Bounds.{Bounds}
 use Rattle.sloth_region.specs.declared.region.Map.{Map}
 use Rattle.sloth_source.specs.Texts.{AreAccepted}
 use Rattle.mem_map.specs.Planned.{IsPlanned}

@@ -5,7 +5,7 @@ use Rattle.map_text.specs.Rows.{map_rows}
 use Rattle.mem_map.specs.Planned.{IsPlanned}
 use Rattle.sloth_base.specs.declared.app.App.{App}
 use Rattle.sloth_base.specs.declared.config.Config.{Config}
-use Rattle.sloth_base.specs.declared.places.Bounds.{Bounds}
+use Rattle.sloth_base.specs.declared.limits.Bounds.{Bounds}
 use Rattle.sloth_region.specs.declared.region.Map.{Map}
 use Rattle.symbol_image.specs.Symbols.{locals_of}
 use Rattle.symbol_image.specs.declared.symbol.Symbol.{Symbol}

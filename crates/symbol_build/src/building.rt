@@ -13,14 +13,13 @@ use asm_lines::read_lines;
 use map_text::{Origins, line_origins, map_rows};
 use mem_map::plan;
 use sloth_base::{App, Bounds, BuildError, Config, Result};
-use sloth_build::building::image;
+use sloth_build::gathering::image;
 use sloth_region::Map;
 use sloth_source::{Source, read};
 use std::alloc::Global;
 use symbol_image::{Parts, symbol_file};
 use text_pieces::lines;
 
-// Where it declares its symbols, and where its lines come from.
 fn source_origins(alloc: Global, src: &[u8]) -> Result<Origins>
     requires short { length src.now ≤ file_limit }
     ensures { IfOk result (λ found. found ≡ source_origins src.now) }

@@ -15,7 +15,7 @@ use Rattle.symbol_image.specs.Loading.{IsLoad, Load, LoadedOnce, Loads, MemoryIs
 use Rattle.symbol_image.specs.Sections.{IsSection, SectionsAgree, section_flags}
 use Rattle.symbol_image.specs.SymbolFile.{debugging_sections, laid_parts, loaded, memory_between, parts_borders, rows_of, stack_section, symbol_file, table_sections}
 use Rattle.symbol_image.specs.Symbols.{locals_of, all_symbols}
-use Rattle.map_text.specs.declared.borders.Borders.{Borders}
+use Rattle.map_text.specs.declared.piece_starts.Borders.{Borders}
 
 -- ---- headers
 

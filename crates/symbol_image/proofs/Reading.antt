@@ -6,7 +6,7 @@ use Rattle.symbol_image.specs.Fields.{text_bytes}
 use Rattle.image_file.specs.Fields.{four_bytes, two_bytes}
 use Rattle.symbol_image.specs.Reading.{ReadsAs, SymbolsReadBack}
 use Rattle.symbol_image.specs.SymbolTable.{name_table, no_symbol_bytes, section_number, symbol_bytes, symbol_table, table_from}
-use Rattle.map_text.specs.declared.borders.Borders.{Borders}
+use Rattle.map_text.specs.declared.piece_starts.Borders.{Borders}
 use Rattle.symbol_image.specs.declared.symbol.Symbol.{Symbol}
 
 -- the names of symbols, each with a zero

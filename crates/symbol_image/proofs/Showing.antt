@@ -9,10 +9,10 @@ use Rattle.sloth_base.specs.declared.app.App.{App}
 use Rattle.sloth_base.specs.declared.app.Func.{Func}
 use Rattle.sloth_base.specs.declared.app.Label.{Label}
 use Rattle.sloth_base.specs.declared.app.Symbol.{Symbol}
-use Rattle.sloth_base.specs.declared.places.Places.{Places}
-use Rattle.symbol_image.specs.declared.data.Shape.{Shape}
-use Rattle.symbol_image.specs.declared.data.Shape.TheVariants as shape
-use Rattle.symbol_image.specs.declared.data.Types.{Types}
+use Rattle.sloth_base.specs.declared.limits.Places.{Places}
+use Rattle.symbol_image.specs.declared.bodies.Shape.{Shape}
+use Rattle.symbol_image.specs.declared.bodies.Shape.TheVariants as shape
+use Rattle.symbol_image.specs.declared.bodies.Types.{Types}
 use Rattle.symbol_image.specs.Abbreviations.{abbreviations, array_kind, index_kind}
 use Rattle.symbol_image.specs.Entries.{all_body_bytes, all_symbol_bytes, array_entries, base_type, body_entries, body_entry, byte_name, end_entries, frame_entries, frame_type_entries, frame_variable_entry, front_bytes, has_below, info_section, inner_labels, label_entry, place_behind, data_shape, symbol_entries, symbols_behind, type_entries, type_place, types_of, unit_bytes, unit_entry, unit_header, variable_entry, word_name}
 use Rattle.symbol_image.specs.EntryBytes.{End, DwarfEntry, HasForms, Of, Reference, Word, entries_bytes, entry_bytes}

@@ -4,12 +4,12 @@ use Rattle.std.specs.List.{flat_map}
 use Rattle.std.proofs.lemmas.List.Concat.{flat_map-append}
 use Rattle.image_file.specs.Fields.{four_bytes, two_bytes}
 use Rattle.sloth_base.specs.declared.app.App.{App}
-use Rattle.sloth_base.specs.declared.places.Places.{Places}
+use Rattle.sloth_base.specs.declared.limits.Places.{Places}
 use Rattle.symbol_image.specs.Entries.{all_body_bytes, all_symbol_bytes, base_type, byte_name, info_section, place_behind, types_of, unit_bytes, unit_entry, unit_header, unit_names, unit_places, word_name}
 use Rattle.symbol_image.specs.EntryBytes.{entries_bytes, entry_bytes, value_bytes}
 use Rattle.symbol_image.specs.Fields.{sized}
 use Rattle.map_text.specs.LineRows.{item_address}
-use Rattle.symbol_image.specs.declared.data.Types.{Types}
+use Rattle.symbol_image.specs.declared.bodies.Types.{Types}
 
 header : unit_header ≡ 4 ∷ 0 ∷ 0 ∷ 0 ∷ 0 ∷ 0 ∷ 4 ∷ []
 unfolding four_bytes two_bytes

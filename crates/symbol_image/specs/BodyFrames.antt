@@ -7,7 +7,7 @@ use Rattle.sloth_base.specs.declared.app.Func.{Func}
 use Rattle.sloth_base.specs.declared.app.Item.{Item}
 use Rattle.sloth_base.specs.declared.app.Op.{Op}
 use Rattle.sloth_base.specs.declared.app.Op.TheVariants as op
-use Rattle.sloth_base.specs.declared.places.Places.{Places}
+use Rattle.sloth_base.specs.declared.limits.Places.{Places}
 use Rattle.symbol_image.specs.Fields.{unsigned_leb}
 use Rattle.map_text.specs.LineRows.{item_address}
 

@@ -6,14 +6,14 @@ use Rattle.sloth_base.specs.declared.app.App.{App}
 use Rattle.sloth_base.specs.declared.app.Func.{Func}
 use Rattle.sloth_base.specs.declared.app.Label.{Label}
 use Rattle.sloth_base.specs.declared.app.Symbol.{Symbol}
-use Rattle.sloth_base.specs.declared.places.Places.{Places}
+use Rattle.sloth_base.specs.declared.limits.Places.{Places}
 use Rattle.symbol_image.specs.Abbreviations.{array_kind, base_type_kind, body_kind, frame_kind, index_kind, label_kind, plain_body_kind, unit_kind, variable_kind}
 use Rattle.symbol_image.specs.EntryBytes.{Address, Byte, End, DwarfEntry, Location, Of, Offset, Present, Reference, Text, Value, Word, entries_bytes}
 use Rattle.symbol_image.specs.Fields.{sized}
 use Rattle.map_text.specs.LineRows.{item_address}
-use Rattle.symbol_image.specs.declared.data.Shape.{Shape}
-use Rattle.symbol_image.specs.declared.data.Shape.TheVariants as shape
-use Rattle.symbol_image.specs.declared.data.Types.{Types}
+use Rattle.symbol_image.specs.declared.bodies.Shape.{Shape}
+use Rattle.symbol_image.specs.declared.bodies.Shape.TheVariants as shape
+use Rattle.symbol_image.specs.declared.bodies.Types.{Types}
 
 -- ---- the unit
 

@@ -4,14 +4,14 @@ use Rattle.sloth_base.specs.Named.{function, no_symbol}
 use Rattle.sloth_base.specs.declared.app.App.{App}
 use Rattle.sloth_base.specs.declared.app.Func.{Func}
 use Rattle.sloth_base.specs.declared.app.Symbol.{Symbol}
-use Rattle.sloth_base.specs.declared.places.Places.{Places}
+use Rattle.sloth_base.specs.declared.limits.Places.{Places}
 use Rattle.symbol_image.specs.Abbreviations.{Abbreviation, abbreviations, array_kind, index_kind}
 use Rattle.symbol_image.specs.Entries.{base_type, body_entry, byte_name, info_section, data_shape, unit_header, variable_entry, word_name}
 use Rattle.symbol_image.specs.EntryBytes.{End, DwarfEntry, HasForms, Of, Reference, Word, entries_bytes}
 use Rattle.symbol_image.specs.Fields.{sized}
 use Rattle.map_text.specs.LineRows.{item_address, item_count}
-use Rattle.symbol_image.specs.declared.data.Shape.{Shape}
-use Rattle.symbol_image.specs.declared.data.Shape.TheVariants as shape
+use Rattle.symbol_image.specs.declared.bodies.Shape.{Shape}
+use Rattle.symbol_image.specs.declared.bodies.Shape.TheVariants as shape
 
 -- an entry's kind is one of a table
 abbrev pub HasKindIn : List Abbreviation → DwarfEntry → Type 0

@@ -2,7 +2,7 @@
 use Rattle.std.specs.Prelude.{ℕ, ◌+◌, ◌≤◌, ◌<◌, All}
 use Rattle.sloth_base.specs.Limits.{frame_limit, item_limit}
 use Rattle.sloth_base.specs.declared.app.App.{App}
-use Rattle.sloth_base.specs.declared.places.Places.{Places}
+use Rattle.sloth_base.specs.declared.limits.Places.{Places}
 use Rattle.map_text.specs.LineRows.{item_address, item_count}
 
 -- task code within its limits, whose items stand below the end of addresses

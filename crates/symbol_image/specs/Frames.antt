@@ -4,14 +4,14 @@ use Rattle.std.specs.List.{flat_map}
 use Rattle.sloth_base.specs.MemoryMap.{memory_base}
 use Rattle.sloth_base.specs.Named.{function}
 use Rattle.sloth_base.specs.declared.app.App.{App}
-use Rattle.sloth_base.specs.declared.places.Places.{Places}
+use Rattle.sloth_base.specs.declared.limits.Places.{Places}
 use Rattle.symbol_image.specs.BodyFrames.{body_rules}
 use Rattle.symbol_image.specs.FrameEntries.{common_entry, frame_entry, is_unknown}
 use Rattle.symbol_image.specs.Fields.{unsigned_leb}
 use Rattle.map_text.specs.LineRows.{item_count}
-use Rattle.map_text.specs.declared.piece_rows.Kind.{Kind}
-use Rattle.map_text.specs.declared.piece_rows.Kind.TheVariants as kind
-use Rattle.map_text.specs.declared.piece_rows.Row.{Row}
+use Rattle.map_text.specs.declared.piece_starts.Kind.{Kind}
+use Rattle.map_text.specs.declared.piece_starts.Kind.TheVariants as kind
+use Rattle.map_text.specs.declared.piece_starts.Row.{Row}
 use Rattle.symbol_image.specs.declared.frames.Lost.{Lost}
 use Rattle.symbol_image.specs.declared.frames.Lost.TheVariants as lost
 

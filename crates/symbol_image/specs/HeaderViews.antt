@@ -1,7 +1,7 @@
 -- What the headers ask of the zones of an image.
 use Rattle.std.specs.Prelude.{ℕ, ◌+◌, ◌≡◌, ◌≤◌}
 use Rattle.sloth_base.specs.MemoryMap.{memory_base, vectors_base}
-use Rattle.map_text.specs.declared.borders.Borders.{Borders}
+use Rattle.map_text.specs.declared.piece_starts.Borders.{Borders}
 
 -- the data begin behind the vector words, and the memory ends behind them
 pub record AreOrdered (borders : Borders) : Type 0 where

@@ -5,7 +5,7 @@ use Rattle.elf_image.specs.ElfText.{elf_class, elf_magic}
 use Rattle.image_file.specs.Fields.{four_bytes, two_bytes}
 use Rattle.sloth_base.specs.MemoryMap.{boot_base, memory_base, vectors_base}
 use Rattle.symbol_image.specs.Layout.{front}
-use Rattle.map_text.specs.declared.borders.Borders.{Borders}
+use Rattle.map_text.specs.declared.piece_starts.Borders.{Borders}
 
 -- an executable (2) of 32 bits, low byte first, for RISC-V (243)
 abbrev pub elf_kind : List ℕ

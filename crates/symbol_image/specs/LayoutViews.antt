@@ -1,22 +1,21 @@
 -- Sections and their layout as the code has them.
-use Rattle.std.specs.Prelude.{ℕ, List}
+use Rattle.std.specs.Prelude.{ℕ, List, get_or}
 use Rattle.symbol_image.specs.Layout as layout
 use Rattle.symbol_image.specs.declared.layout.Laid.{Laid}
-use Rattle.symbol_image.specs.declared.layout.SectionFields.{SectionFields}
 
--- a section with this name and these bytes in the file
-abbrev pub section_of : (name : List ℕ) → SectionFields → (contents : List ℕ) → layout.Section
-section_of name f contents = record {
+-- a section with this name, these numbers in its header and these bytes in the file
+abbrev pub section_of : (name numbers contents : List ℕ) → layout.Section
+section_of name n contents = record {
   name = name;
-  kind = f.kind;
-  flags = f.flags;
-  address = f.address;
+  kind = get_or n 0 0;
+  flags = get_or n 1 0;
+  address = get_or n 2 0;
   contents = contents;
-  size = f.size;
-  link = f.link;
-  info = f.info;
-  align = f.align;
-  entry = f.entry;
+  size = get_or n 3 0;
+  link = get_or n 4 0;
+  info = get_or n 5 0;
+  align = get_or n 6 0;
+  entry = get_or n 7 0;
 }
 
 -- what is laid out

@@ -2,7 +2,7 @@
 use Rattle.std.specs.Prelude.{ℕ, ◌≡◌, ◌+◌, ◌*◌, ◌<◌, ◌^◌, List, [], ◌∷◌, ◌++◌, drop, take, length}
 use Rattle.image_file.specs.Fields.{four_bytes, two_bytes}
 use Rattle.symbol_image.specs.SymbolTable.{name_table, section_number, symbol_info, symbol_table}
-use Rattle.map_text.specs.declared.borders.Borders.{Borders}
+use Rattle.map_text.specs.declared.piece_starts.Borders.{Borders}
 use Rattle.symbol_image.specs.declared.symbol.Symbol.{Symbol}
 
 -- the symbol of this number in a table of symbols reads so, with its name where the table of names has it, and in a section

@@ -7,7 +7,7 @@ use Rattle.symbol_image.specs.FileRows.{file_rows}
 use Rattle.map_text.specs.LineRows.{line_rows}
 use Rattle.symbol_image.specs.LineSection.{line_section}
 use Rattle.map_text.specs.Rows.{map_rows}
-use Rattle.map_text.specs.declared.piece_rows.Row.{Row}
+use Rattle.map_text.specs.declared.piece_starts.Row.{Row}
 use Rattle.map_text.specs.Borders.{image_borders}
 use Rattle.symbol_image.specs.FileParts.{FileParts}
 use Rattle.symbol_image.specs.Frames.{frame_section}
@@ -15,7 +15,7 @@ use Rattle.symbol_image.specs.Headers.{elf_header, segment_headers}
 use Rattle.symbol_image.specs.Layout.{Laid, Section, all_laid, front, none_laid, padded, plain, strings, with_names}
 use Rattle.symbol_image.specs.SymbolTable.{name_table, symbol_table}
 use Rattle.symbol_image.specs.Symbols.{locals_of, all_symbols}
-use Rattle.map_text.specs.declared.borders.Borders.{Borders}
+use Rattle.map_text.specs.declared.piece_starts.Borders.{Borders}
 use Rattle.symbol_image.specs.declared.symbol.Symbol.{Symbol}
 
 -- the rows of the map, and where its zones begin and end

@@ -4,7 +4,7 @@ use Rattle.std.specs.List.{flat_map}
 use Rattle.image_file.specs.Fields.{four_bytes, two_bytes}
 use Rattle.sloth_base.specs.MemoryMap.{vectors_base}
 use Rattle.symbol_image.specs.Fields.{text_bytes}
-use Rattle.map_text.specs.declared.borders.Borders.{Borders}
+use Rattle.map_text.specs.declared.piece_starts.Borders.{Borders}
 use Rattle.symbol_image.specs.declared.symbol.Binding.{Binding}
 use Rattle.symbol_image.specs.declared.symbol.Binding.TheVariants as binding
 use Rattle.symbol_image.specs.declared.symbol.Symbol.{Symbol}

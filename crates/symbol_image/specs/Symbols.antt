@@ -12,9 +12,9 @@ use Rattle.sloth_base.specs.declared.config.CounterDecl.{CounterDecl}
 use Rattle.sloth_base.specs.declared.config.TaskDecl.{TaskDecl}
 use Rattle.sloth_region.specs.Layout.{active, alarm_cycle, alarm_left, below_word, context_bytes, counter_value, cur, events, idle_context, resume, saved_level, wait}
 use Rattle.map_text.specs.PieceNames.{block_symbol, joined}
-use Rattle.map_text.specs.declared.piece_rows.Kind.{Kind}
-use Rattle.map_text.specs.declared.piece_rows.Kind.TheVariants as kind
-use Rattle.map_text.specs.declared.piece_rows.Row.{Row}
+use Rattle.map_text.specs.declared.piece_starts.Kind.{Kind}
+use Rattle.map_text.specs.declared.piece_starts.Kind.TheVariants as kind
+use Rattle.map_text.specs.declared.piece_starts.Row.{Row}
 use Rattle.symbol_image.specs.declared.symbol.Binding.TheVariants as binding
 use Rattle.symbol_image.specs.declared.symbol.Symbol.{Symbol}
 use Rattle.symbol_image.specs.declared.symbol.SymbolKind.{SymbolKind}

@@ -3,8 +3,7 @@ ghost use Rattle.std.specs.Prelude.{ℕ, ◌≡◌, ◌≤◌, ◌<◌, ◌+◌,
 ghost use Rattle.sloth_base.specs.Limits.{frame_limit, item_limit};
 ghost use Rattle.sloth_base.specs.Named.{function};
 ghost use Rattle.map_text.specs.LineRows.{item_address};
-ghost use Rattle.symbol_image.specs.BodyFrames.{back_rule, body_rules, frame_at, inside, item_rules};
-ghost use Rattle.symbol_image.specs.BodyFrames.{items_rules, on_to, own_words, told_at};
+ghost use Rattle.symbol_image.specs.BodyFrames.{back_rule, body_rules, frame_at, inside, item_rules, items_rules, on_to, own_words, told_at};
 
 use crate::fields::{put_bytes, put_half, put_unsigned};
 use map_text::item_address;
@@ -14,11 +13,12 @@ use std::alloc::Global;
 /// A function goes on so many bytes behind what it finds.
 const BACK: u8 = 12;
 
-/// The addresses from one to the next.
+/// The addresses of an item, of the next one, and behind the last one of its body.
 #[derive(Clone, Copy)]
 struct Span {
     first: u32,
     next: u32,
+    end: u32,
 }
 
 // Appends that rules go on at an address, where the last ones were told at another.
@@ -53,7 +53,6 @@ fn own_words(func: &Func) -> u32
     }
 }
 
-// Appends where a function goes on; a task has no caller.
 fn put_back(rules: &mut Vec<u8>, func: &Func) -> Result<()>
     ensures { OnOk result (rules.new.items ≡ rules.old.items ++ back_rule func.now.task) }
 {
@@ -70,15 +69,6 @@ fn called_words(app: &App, number: usize) -> u32
         Some(func) => func.frame_words,
         None => 0,
     }
-}
-
-// Within a call: the called body's frame lies below that of so many words.
-fn put_call(rules: &mut Vec<u8>, own: u32, called: u32) -> Result<()>
-    requires { (own ≤ frame_limit + 1) × (called ≤ frame_limit) }
-    ensures { OnOk result (rules.new.items ≡ rules.old.items ++ 10 ∷ frame_at (4 * own + 4 + 4 * called)) }
-{
-    put_bytes(rules, &[10])?;
-    put_frame_offset(rules, WORD * own + WORD + WORD * called)
 }
 
 // Within a return: the frame is gone, and x31 has where it goes back to.
@@ -105,33 +95,27 @@ fn put_again(rules: &mut Vec<u8>, at: u32, next: u32, end: u32) -> Result<u32>
 }
 
 // Appends the rules of an item, where the last ones were told at an address; and where rules were told last behind it.
-fn put_item(
-    rules: &mut Vec<u8>,
-    app: &App,
-    own: u32,
-    at: u32,
-    span: Span,
-    end: u32,
-    op: &Op,
-) -> Result<u32>
+fn put_item(rules: &mut Vec<u8>, app: &App, own: u32, at: u32, span: Span, op: &Op) -> Result<u32>
     requires frames { (own ≤ frame_limit + 1) × All (λ f. f.frame_words ≤ frame_limit) app.now.funcs }
     requires room { span.first + 8 < 4294967296 }
     ensures put { IfOk result (λ told. rules.new.items
-        ≡ rules.old.items ++ item_rules at span.first span.next end (inside app.now own op.now)) }
-    ensures told { IfOk result (λ told. told ≡ told_at at span.first span.next end (inside app.now own op.now)) }
+        ≡ rules.old.items ++ item_rules at span.first span.next span.end (inside app.now own op.now)) }
+    ensures told { IfOk result (λ told. told ≡ told_at at span.first span.next span.end (inside app.now own op.now)) }
 {
     match op {
         Op::Invoke { func } => {
             let inside = span.first + WORD;
             put_next_address(rules, at, inside)?;
-            put_call(rules, own, called_words(app, func.0 as usize))?;
-            put_again(rules, inside, span.next, end)
+            let called = called_words(app, func.0 as usize);
+            put_bytes(rules, &[10])?;
+            put_frame_offset(rules, WORD * own + WORD + WORD * called)?;
+            put_again(rules, inside, span.next, span.end)
         }
         Op::Return => {
             let inside = span.first + 2 * WORD;
             put_next_address(rules, at, inside)?;
             put_return(rules)?;
-            put_again(rules, inside, span.next, end)
+            put_again(rules, inside, span.next, span.end)
         }
         _ => Ok(at),
     }
@@ -158,11 +142,10 @@ fn put_items(
     let own = own_words(func);
     let mut at = item_address(places, code_end, number);
     for k in 0..items.len() {
-        let span = Span {
-            first: item_address(places, code_end, number + k),
-            next: item_address(places, code_end, number + k + 1),
-        };
-        at = put_item(rules, app, own, at, span, end, &items[k].op)?;
+        let first = item_address(places, code_end, number + k);
+        let next = item_address(places, code_end, number + k + 1);
+        let span = Span { first, next, end };
+        at = put_item(rules, app, own, at, span, &items[k].op)?;
     }
     Ok(())
 }

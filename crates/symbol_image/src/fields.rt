@@ -1,5 +1,6 @@
 //! The fields of which sections are made.
 ghost use Rattle.std.specs.Prelude.{◌≡◌, ◌≤◌, ◌++◌, IfOk, OnOk};
+ghost use Rattle.std.specs.List.{flat_map};
 ghost use Rattle.image_file.specs.Fields.{four_bytes, two_bytes};
 ghost use Rattle.symbol_image.specs.Fields.{groups, negative_leb, sized, text_bytes, unsigned_leb};
 
@@ -38,6 +39,16 @@ pub fn put_length(section: &mut Vec<u8>, length: usize) -> Result<()>
     ensures { OnOk result (section.new.items ≡ section.old.items ++ four_bytes length) }
 {
     put_u32(section, (length % FOUR_BYTES) as u32)
+}
+
+/// Appends lengths and places, each in four bytes.
+pub fn put_lengths(section: &mut Vec<u8>, lengths: &[usize]) -> Result<()>
+    ensures { OnOk result (section.new.items ≡ section.old.items ++ flat_map four_bytes lengths.now) }
+{
+    for length in lengths {
+        put_length(section, *length)?;
+    }
+    Ok(())
 }
 
 /// Appends a number in two bytes, of which only the lowest 16 bits are written.

@@ -1,31 +1,24 @@
-//! The file of an image that debuggers read. What a file for debuggers is made from.
-ghost use Rattle.std.specs.Prelude.{◌≡◌, ◌≤◌, ◌<◌, ◌+◌, ◌^◌, ◌∷◌, [], IfOk, OnOk, codes, length};
-ghost use Rattle.sloth_base.specs.Limits.{item_limit};
+//! The file of an image that debuggers read, what it is made from, and the kinds of its entries.
+ghost use Rattle.std.specs.Prelude.{◌≡◌, ◌≤◌, ◌<◌, ◌+◌, IfOk, OnOk, length};
 ghost use Rattle.sloth_base.specs.MemoryMap.{memory_base};
-ghost use Rattle.map_text.specs.LineRows.{item_count};
 ghost use Rattle.symbol_image.specs.FileParts.{MayShow};
 ghost use Rattle.symbol_image.specs.FrameRows.{HasFrames};
 ghost use Rattle.symbol_image.specs.HeaderViews.{AreOrdered, IsMemoryWithin};
-ghost use Rattle.symbol_image.specs.Layout.{all_laid, laid_with, padded, strings, with_names};
+ghost use Rattle.symbol_image.specs.Layout.{all_laid, laid_with, padded, with_names};
 ghost use Rattle.symbol_image.specs.LayoutViews.{laid_of};
-ghost use Rattle.symbol_image.specs.SymbolFile.{code_sections, data_sections, debugging_sections, entries_section};
-ghost use Rattle.symbol_image.specs.SymbolFile.{laid_file, frames_section, lines_section, loaded, part_sections};
-ghost use Rattle.symbol_image.specs.SymbolFile.{rows_of, symbol_file, symbol_section, table_sections};
+ghost use Rattle.symbol_image.specs.SymbolFile.{code_sections, data_sections, debugging_sections, laid_file, loaded, part_sections, rows_of, symbol_file, table_sections};
 ghost use Rattle.symbol_image.specs.Symbols.{locals_of, all_symbols};
 ghost use Rattle.symbol_image.specs.WordSymbols.{HasWords};
+ghost use Rattle.symbol_image.specs.Abbreviations.{abbreviation_section};
 
-use crate::abbreviations::abbreviation_section;
 use crate::fields::put_bytes;
 use crate::frames::frame_section;
-use crate::headers::{put_elf_header, put_segments};
-use crate::info::info_section;
 use crate::layout::{
-    CONTENTS, FRONT, Laid, STRINGS, SectionFields, lay, lay_end, lay_names, lay_unloaded, none_laid,
+    CONTENTS, FRONT, Laid, STRINGS, lay, lay_end, lay_names, lay_unloaded, none_laid,
+    put_elf_header, put_segments,
 };
-use crate::line_section::line_section;
-use crate::symbol::{Symbol, push_globals, push_locals};
-use crate::symbol_table::{Tables, symbol_tables};
-use crate::word_symbols::push_words;
+use crate::line_section::{info_section, line_section};
+use crate::symbol::{Symbol, Tables, push_globals, push_locals, push_words, symbol_tables};
 use map_text::{Borders, Origins, Row, image_borders};
 use sloth_base::{App, Config, MEMORY_BASE, Result, VECTORS_BASE};
 use sloth_region::Map;
@@ -33,30 +26,20 @@ use std::alloc::Global;
 use std::marker::Model;
 
 /// A section is loaded and written, or loaded and executed.
-const WRITTEN: u32 = 3;
+const WRITTEN: usize = 3;
 
-const EXECUTED: u32 = 6;
+const EXECUTED: usize = 6;
 
-fn load(laid: &mut Laid, name: &[u8], flags: u32, memory: &[u8], from: u32, to: u32) -> Result<()>
+fn load(laid: &mut Laid, name: &[u8], flags: usize, memory: &[u8], from: u32, to: u32) -> Result<()>
     requires { (memory_base ≤ from) × (from ≤ to) × (to ≤ memory_base + length memory.now) }
     ensures { OnOk result (laid_of laid.new
         ≡ laid_with (laid_of laid.old) (loaded name.now flags memory.now from to)) }
 {
     let contents = &memory[(from - MEMORY_BASE) as usize..(to - MEMORY_BASE) as usize];
-    let fields = SectionFields {
-        kind: 1,
-        flags,
-        address: from,
-        size: contents.len(),
-        link: 0,
-        info: 0,
-        align: 4,
-        entry: 0,
-    };
-    lay(laid, name, fields, contents)
+    let numbers = [1, flags, from as usize, contents.len(), 0, 0, 4, 0];
+    lay(laid, name, &numbers, contents)
 }
 
-// Lays out what is loaded: words and code, then data and stacks.
 fn lay_memory(laid: &mut Laid, memory: &[u8], borders: &Borders) -> Result<()>
     requires { IsMemoryWithin (length memory.now) borders.now }
     ensures { OnOk result (laid_of laid.new
@@ -64,126 +47,41 @@ fn lay_memory(laid: &mut Laid, memory: &[u8], borders: &Borders) -> Result<()>
         borders.now)) }
 {
     let (code_end, end) = (borders.code_end, borders.end);
-    let stacks = SectionFields {
-        kind: 8,
-        flags: WRITTEN,
-        address: borders.stacks,
-        size: borders.top.saturating_sub(borders.stacks) as usize,
-        link: 0,
-        info: 0,
-        align: 16,
-        entry: 0,
-    };
+    let (stacks, size) = (borders.stacks, borders.top.saturating_sub(borders.stacks));
+    let numbers = [8, WRITTEN, stacks as usize, size as usize, 0, 0, 16, 0];
     load(laid, b".words", WRITTEN, memory, MEMORY_BASE, VECTORS_BASE)?;
     load(laid, b".text", EXECUTED, memory, VECTORS_BASE, code_end)?;
     load(laid, b".data", WRITTEN, memory, code_end, end)?;
-    lay(laid, b".stack", stacks, b"")
+    lay(laid, b".stack", &numbers, b"")
 }
 
-fn lay_entries(alloc: Global, laid: &mut Laid, parts: &Parts, code_end: u32) -> Result<()>
-    requires { item_count parts.now.app.funcs ≤ item_limit }
-    ensures { OnOk result (laid_of laid.new ≡ laid_with (laid_of laid.old) (entries_section parts.now code_end)) }
-{
-    let entries = info_section(
-        alloc,
-        parts.source,
-        parts.app,
-        &parts.map.places,
-        code_end,
-        parts.origins.lines.items(),
-    )?;
-    lay_unloaded(laid, CONTENTS, b".debug_info", entries.as_slice())
-}
-
-fn lay_lines(alloc: Global, laid: &mut Laid, parts: &Parts, code_end: u32) -> Result<()>
-    requires { item_count parts.now.app.funcs ≤ item_limit }
-    ensures { OnOk result (laid_of laid.new ≡ laid_with (laid_of laid.old) (lines_section parts.now code_end)) }
-{
-    let lines = line_section(
-        alloc,
-        parts.source,
-        parts.app,
-        &parts.map.places,
-        parts.origins,
-        code_end,
-    )?;
-    lay_unloaded(laid, CONTENTS, b".debug_line", lines.as_slice())
-}
-
-fn lay_frames(
-    alloc: Global,
-    laid: &mut Laid,
-    parts: &Parts,
-    code_end: u32,
-    rows: &[Row],
-) -> Result<()>
-    requires { HasFrames parts.now.app parts.now.map.places code_end }
-    ensures { OnOk result (laid_of laid.new
-        ≡ laid_with (laid_of laid.old) (frames_section parts.now code_end rows.now)) }
-{
-    let frames = frame_section(
-        alloc,
-        parts.app,
-        &parts.map.places,
-        code_end,
-        parts.memory,
-        rows,
-    )?;
-    lay_unloaded(laid, CONTENTS, b".debug_frame", frames.as_slice())
-}
-
-fn lay_debugging(
-    alloc: Global,
-    laid: &mut Laid,
-    parts: &Parts,
-    code_end: u32,
-    rows: &[Row],
-) -> Result<()>
-    requires { HasFrames parts.now.app parts.now.map.places code_end }
-    ensures { OnOk result (laid_of laid.new
-        ≡ all_laid (laid_of laid.old) (debugging_sections parts.now code_end rows.now)) }
+fn lay_debugging(alloc: Global, laid: &mut Laid, from: &Parts, end: u32, rows: &[Row]) -> Result<()>
+    requires { HasFrames from.now.app from.now.map.places end }
+    ensures { OnOk result (laid_of laid.new ≡ all_laid (laid_of laid.old) (debugging_sections from.now end rows.now)) }
 {
     let kinds = abbreviation_section(alloc)?;
     lay_unloaded(laid, CONTENTS, b".debug_abbrev", kinds.as_slice())?;
-    lay_entries(alloc, laid, parts, code_end)?;
-    lay_lines(alloc, laid, parts, code_end)?;
-    lay_frames(alloc, laid, parts, code_end, rows)
-}
-
-// Appends all symbols, and says how many of them are local.
-fn push_symbols(alloc: Global, all: &mut Vec<Symbol>, parts: &Parts, rows: &[Row]) -> Result<usize>
-    requires words { HasWords parts.now.config }
-    requires none { all.now.items ≡ [] }
-    ensures all { IfOk result (λ locals. all.new.items ≡ all_symbols parts.now.config parts.now.app rows.now) }
-    ensures locals { IfOk result (λ locals. locals ≡ length (locals_of parts.now.config rows.now)) }
-    ensures few { IfOk result (λ locals. locals < 2 ^ 63) }
-{
-    push_words(alloc, all, parts.config)?;
-    push_locals(alloc, all, parts.config, rows)?;
-    let locals = all.len();
-    push_globals(alloc, all, parts.app, rows)?;
-    Ok(locals)
-}
-
-// Lays out the table of symbols, so many of which are local, and that of their names.
-fn lay_both(laid: &mut Laid, tables: &Tables, locals: usize) -> Result<()>
-    requires { locals < 2 ^ 63 }
-    ensures { OnOk result (laid_of laid.new
-        ≡ all_laid (laid_of laid.old) (symbol_section tables.now.symbols.items locals
-        ∷ strings (codes ".strtab") tables.now.names.items ∷ [])) }
-{
-    let fields = SectionFields {
-        kind: 2,
-        flags: 0,
-        address: 0,
-        size: tables.symbols.len(),
-        link: 10,
-        info: 1 + locals,
-        align: 4,
-        entry: 16,
-    };
-    lay(laid, b".symtab", fields, tables.symbols.as_slice())?;
-    lay_unloaded(laid, STRINGS, b".strtab", tables.names.as_slice())
+    let declared = from.origins.lines.items();
+    let entries = info_section(
+        alloc,
+        from.source,
+        from.app,
+        &from.map.places,
+        end,
+        declared,
+    )?;
+    lay_unloaded(laid, CONTENTS, b".debug_info", entries.as_slice())?;
+    let lines = line_section(
+        alloc,
+        from.source,
+        from.app,
+        &from.map.places,
+        from.origins,
+        end,
+    )?;
+    lay_unloaded(laid, CONTENTS, b".debug_line", lines.as_slice())?;
+    let frames = frame_section(alloc, from.app, &from.map.places, end, from.memory, rows)?;
+    lay_unloaded(laid, CONTENTS, b".debug_frame", frames.as_slice())
 }
 
 fn lay_symbols(
@@ -193,15 +91,20 @@ fn lay_symbols(
     borders: &Borders,
     rows: &[Row],
 ) -> Result<()>
-    requires words { HasWords parts.now.config }
+    requires { HasWords parts.now.config }
     ensures { OnOk result (laid_of laid.new
         ≡ all_laid (laid_of laid.old) (table_sections borders.now (all_symbols parts.now.config parts.now.app rows.now)
         (length (locals_of parts.now.config rows.now)))) }
 {
     let mut all = Vec::new(alloc);
-    let locals = push_symbols(alloc, &mut all, parts, rows)?;
+    push_words(alloc, &mut all, parts.config)?;
+    push_locals(alloc, &mut all, parts.config, rows)?;
+    let locals = all.len();
+    push_globals(alloc, &mut all, parts.app, rows)?;
     let tables = symbol_tables(alloc, borders, all.as_slice())?;
-    lay_both(laid, &tables, locals)
+    let numbers = [2, 0, 0, tables.table.len(), 10, 1 + locals, 4, 16];
+    lay(laid, b".symtab", &numbers, tables.table.as_slice())?;
+    lay_unloaded(laid, STRINGS, b".strtab", tables.names.as_slice())
 }
 
 fn lay_parts(
@@ -224,7 +127,6 @@ fn lay_parts(
     lay_end(laid)
 }
 
-// The file of sections that are laid out.
 fn laid_file(alloc: Global, borders: &Borders, laid: &Laid) -> Result<Vec<u8>>
     requires { AreOrdered borders.now }
     ensures { IfOk result (λ file. file.items ≡ laid_file borders.now (laid_of laid.now)) }
@@ -275,4 +177,27 @@ impl<'t> Model for Parts<'t> {
       origins = parts.origins.now;
       memory = parts.memory.now;
     } };
+}
+
+// The bytes of all kinds, a row for each: code, tag, whether it has children, attributes with their forms, two zeros.
+const KINDS: [u8; 122] = [
+    1, 17, 1, 37, 8, 19, 11, 3, 8, 27, 8, 17, 1, 18, 1, 16, 23, 0, 0, // unit
+    2, 36, 0, 3, 8, 62, 11, 11, 11, 0, 0, // base type
+    3, 1, 1, 73, 19, 0, 0, // array
+    4, 33, 0, 73, 19, 47, 6, 0, 0, // index
+    5, 52, 0, 3, 8, 63, 25, 58, 11, 59, 6, 73, 19, 2, 24, 0, 0, // variable
+    6, 46, 1, 3, 8, 63, 25, 58, 11, 59, 6, 17, 1, 18, 1, 0, 0, // body
+    7, 52, 0, 3, 8, 73, 19, 2, 24, 0, 0, // frame
+    8, 10, 0, 3, 8, 58, 11, 59, 6, 17, 1, 0, 0, // label
+    9, 46, 0, 3, 8, 63, 25, 58, 11, 59, 6, 17, 1, 18, 1, 0, 0, // body without frame and labels
+    0, // the end
+];
+
+/// The section of the kinds of entries.
+#[tactic(auto, unfolding(crate::specs::Abbreviations::abbreviation_section))]
+pub fn abbreviation_section(alloc: Global) -> Result<Vec<u8>>
+    ensures { IfOk result (λ section. section.items ≡ abbreviation_section) }
+{
+    let section = Vec::from_slice(alloc, &KINDS)?;
+    Ok(section)
 }

@@ -1,15 +1,16 @@
 //! The section of frames.
 ghost use Rattle.std.specs.Prelude.{◌≡◌, ◌≤◌, ◌<◌, ◌+◌, ◌++◌, IfOk, OnOk, get_or, length, take};
-ghost use Rattle.std.specs.List.{flat_map};
 ghost use Rattle.sloth_base.specs.Limits.{item_limit};
 ghost use Rattle.map_text.specs.LineRows.{item_count};
+ghost use Rattle.symbol_image.specs.Fields.{sized};
+ghost use Rattle.symbol_image.specs.FrameEntries.{common_entry, is_unknown, padded};
 ghost use Rattle.symbol_image.specs.FrameRows.{HasFrames};
-ghost use Rattle.symbol_image.specs.Frames.{body_entry, first_loss, frame_section, loses};
-ghost use Rattle.symbol_image.specs.Frames.{loss_rule, prologue_rules, row_entry, service_rules, memory_word, writes};
+ghost use Rattle.symbol_image.specs.Frames.{body_entry, entry_of, first_loss, frame_section, loses, loss_rule};
+ghost use Rattle.symbol_image.specs.Frames.{prologue_rules, row_entry, service_rules, memory_word, writes};
 
 use crate::body_frames::body_rules;
-use crate::fields::{put_bytes, put_unsigned};
-use crate::frame_entries::{put_common_entry, put_frame_entry, put_unknown};
+use crate::fields::{put_bytes, put_length, put_unsigned};
+use image_file::put_u32;
 use map_text::{Kind, Row};
 use sloth_base::{App, Func, MEMORY_BASE, Places, Result, WORD};
 use std::alloc::Global;
@@ -28,6 +29,9 @@ const SERVICES_AT: u32 = 20;
 
 const TAKEN_AT: u32 = 36;
 
+/// What stands in a common entry in the place of one.
+const COMMON: u32 = 4_294_967_295;
+
 /// The number of mepc.
 const MEPC: u32 = 833;
 
@@ -38,14 +42,56 @@ pub enum Lost {
     ByPrologue,
 }
 
+// Appends that a register's value is unknown.
+fn put_unknown(rules: &mut Vec<u8>, column: u32) -> Result<()>
+    ensures { OnOk result (rules.new.items ≡ rules.old.items ++ is_unknown column) }
+{
+    put_bytes(rules, &[7])?;
+    put_unsigned(rules, column)
+}
+
+// Appends an entry of these bytes: their length with zeros up to a multiple of 4, they, and the zeros.
+fn put_entry(section: &mut Vec<u8>, mut bytes: Vec<u8>) -> Result<()>
+    ensures { OnOk result (section.new.items ≡ section.old.items ++ sized (padded bytes.items)) }
+{
+    let zeros = (4 - bytes.len() % 4) % 4;
+    put_bytes(&mut bytes, &[0; 3][..zeros])?;
+    put_length(section, bytes.len())?;
+    put_bytes(section, bytes.as_slice())
+}
+
+// Appends what entries have in common that go back by a column, which may be unknown.
+fn put_common_entry(alloc: Global, section: &mut Vec<u8>, by: u32, unknown: bool) -> Result<()>
+    ensures { OnOk result (section.new.items ≡ section.old.items ++ common_entry by unknown) }
+{
+    let mut bytes = Vec::new(alloc);
+    put_u32(&mut bytes, COMMON)?;
+    put_bytes(&mut bytes, &[3, 0, 4, 124])?;
+    put_unsigned(&mut bytes, by)?;
+    put_bytes(&mut bytes, &[12, 2, 0])?;
+    if unknown {
+        put_unknown(&mut bytes, by)?;
+    }
+    put_entry(section, bytes)
+}
+
+// Appends the entry of a row's bytes, by the common one at a place.
+fn put_frame_entry(alloc: Global, out: &mut Vec<u8>, at: u32, rules: &[u8], row: &Row) -> Result<()>
+    ensures { OnOk result (out.new.items ≡ out.old.items ++ entry_of at rules.now row.now) }
+{
+    let mut entry = Vec::new(alloc);
+    put_u32(&mut entry, at)?;
+    put_u32(&mut entry, row.base)?;
+    put_u32(&mut entry, row.len)?;
+    put_bytes(&mut entry, rules)?;
+    put_entry(out, entry)
+}
+
 fn byte_or_zero(memory: &[u8], at: usize) -> u32
     ensures is { result ≡ get_or memory.now at 0 }
     ensures small { result ≤ 255 }
 {
-    match memory.get(at) {
-        Some(byte) => u32::from(*byte),
-        None => 0,
-    }
+    u32::from(memory.get(at).copied().unwrap_or(0))
 }
 
 fn memory_word(memory: &[u8], at: usize) -> u32
@@ -91,23 +137,17 @@ fn first_loss(what: Lost, memory: &[u8], base: usize, from: usize, left: usize) 
 }
 
 // Appends the rule of a loss, unless the piece of so many instructions ends there.
-fn put_loss(
-    rules: &mut Vec<u8>,
-    column: u32,
-    told: usize,
-    count: usize,
-    loss: Option<usize>,
-) -> Result<()>
-    ensures { OnOk result (rules.new.items ≡ rules.old.items ++ loss_rule column told count loss) }
+fn put_loss(rules: &mut Vec<u8>, by: u32, told: usize, n: usize, loss: Option<usize>) -> Result<()>
+    ensures { OnOk result (rules.new.items ≡ rules.old.items ++ loss_rule by told n loss) }
 {
     let Some(at) = loss else {
         return Ok(());
     };
-    if count.saturating_sub(at) <= 1 {
+    if n.saturating_sub(at) <= 1 {
         return Ok(());
     }
     put_bytes(rules, &[2, ((at + 1).saturating_sub(told) % 256) as u8])?;
-    put_unknown(rules, column)
+    put_unknown(rules, by)
 }
 
 fn service_rules(alloc: Global, memory: &[u8], base: u32, len: u32) -> Result<Vec<u8>>
@@ -197,25 +237,6 @@ fn put_row(
     }
 }
 
-fn put_rows(
-    alloc: Global,
-    section: &mut Vec<u8>,
-    app: &App,
-    places: &Places,
-    code_end: u32,
-    memory: &[u8],
-    rows: &[Row],
-) -> Result<()>
-    requires { HasFrames app.now places.now code_end }
-    ensures { OnOk result (section.new.items
-        ≡ section.old.items ++ flat_map (row_entry app.now places.now code_end memory.now) rows.now) }
-{
-    for row in rows {
-        put_row(alloc, section, app, places, code_end, memory, row)?;
-    }
-    Ok(())
-}
-
 /// The section of the frames of all code.
 #[tactic(auto, unfolding(crate::specs::Frames::frame_section))]
 pub fn frame_section(
@@ -233,6 +254,8 @@ pub fn frame_section(
     put_common_entry(alloc, &mut section, ITEMS, true)?;
     put_common_entry(alloc, &mut section, SERVICES, false)?;
     put_common_entry(alloc, &mut section, TAKEN, false)?;
-    put_rows(alloc, &mut section, app, places, code_end, memory, rows)?;
+    for row in rows {
+        put_row(alloc, &mut section, app, places, code_end, memory, row)?;
+    }
     Ok(section)
 }

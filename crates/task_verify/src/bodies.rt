@@ -15,11 +15,13 @@ use crate::{
     is_second_take, is_wrong_release, item_faults, last_labels,
 };
 use call_graph::Ranks;
-use sloth_base::least_fault::{fault_if, merge};
+use sloth_base::refusal::{fault_if, merge};
 use sloth_base::{App, Code, Config, Func, Part, Refusal, Result};
 use std::alloc::Global;
 
-// The least of V2 to V12 of a body.
+/// The least refusal that was found, or none.
+pub type Verdict = Result<Option<Refusal>>;
+
 fn body_fault(
     alloc: Global,
     config: &Config,
@@ -27,7 +29,7 @@ fn body_fault(
     ranks: &Ranks,
     body: usize,
     func: &Func,
-) -> Result<Option<Refusal>>
+) -> Verdict
     requires in_range { AppInRange config.now app.now }
     requires belong { RanksOf app.now ranks.now }
     requires known { body < length app.now.funcs }
@@ -43,7 +45,7 @@ fn body_fault(
 }
 
 /// The least of V2 to V12.
-pub fn judge(alloc: Global, config: &Config, app: &App, ranks: &Ranks) -> Result<Option<Refusal>>
+pub fn judge(alloc: Global, config: &Config, app: &App, ranks: &Ranks) -> Verdict
     requires in_range { AppInRange config.now app.now }
     requires belong { RanksOf app.now ranks.now }
     ensures { IfOk result (IsSearchResult (RuleFault config.now app.now)) }
@@ -131,7 +133,7 @@ fn walk(
     func: &Func,
     first: &[Option<usize>],
     last: &[Option<usize>],
-) -> Result<Option<Refusal>>
+) -> Verdict
     requires in_range { AppInRange config.now app.now }
     requires belong { RanksOf app.now ranks.now }
     requires items { AreOps config.now app.now func.now }
@@ -153,13 +155,7 @@ fn walk(
 }
 
 /// The least of V7 to V10 at the places of a body.
-pub fn held_faults(
-    alloc: Global,
-    config: &Config,
-    app: &App,
-    ranks: &Ranks,
-    func: &Func,
-) -> Result<Option<Refusal>>
+pub fn held_faults(alloc: Global, config: &Config, app: &App, ranks: &Ranks, func: &Func) -> Verdict
     requires in_range { AppInRange config.now app.now }
     requires belong { RanksOf app.now ranks.now }
     requires placed { ArePlaced func.now }
@@ -168,6 +164,5 @@ pub fn held_faults(
 {
     let first = first_labels(alloc, func)?;
     let last = last_labels(alloc, func)?;
-    let found = walk(alloc, config, app, ranks, func, &first, &last)?;
-    Ok(found)
+    walk(alloc, config, app, ranks, func, &first, &last)
 }

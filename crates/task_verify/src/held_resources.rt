@@ -1,20 +1,24 @@
-//! V7 to V10: what is held at an item.
-ghost use Rattle.std.specs.Prelude.{◌≡◌, ◌==◌, ◌<◌, ◌||◌, ℕ, Some, get_or, length, false, Decides, IfOk};
+//! V7 to V10: what is held at an item. V12: what the tasks that reach an item may use there.
+ghost use Rattle.std.specs.Prelude.{◌≡◌, ◌==◌, ◌<◌, ℕ, Some, length, Decides, IfOk, true};
 ghost use Rattle.std.specs.List.{list_any};
 ghost use Rattle.code_rules.specs.Code.{is_in, is_last, held_behind, held_after};
 ghost use Rattle.code_rules.specs.WellFormed.{IsOtherListJump};
 ghost use Rattle.call_graph.specs.Bits.{is_member};
-ghost use Rattle.call_graph.specs.Rows.{is_pausing};
 ghost use Rattle.task_verify.specs.Labels.{list_of};
-ghost use Rattle.task_verify.specs.Tests.{is_ending, is_wrong_release, is_second_take, is_leave_with_resource};
+ghost use Rattle.task_verify.specs.Tests.{is_wrong_release, is_second_take, is_leave_with_resource};
 ghost use Rattle.task_verify.specs.Ways.{HasBodyLabel};
+ghost use Rattle.sloth_base.specs.Options.{is_number};
+ghost use Rattle.task_verify.specs.Uses.{is_unlisted, lacks, is_lacked, OperandsOf, is_undeclared_use};
 
-use crate::tasks::contains;
 use crate::way;
 use crate::ways::is_ending;
-use call_graph::Ranks;
-use sloth_base::{Call, Func, FuncId, NoMemory, Op, ResId, Result, Service};
+use call_graph::{Ranks, has};
+use sloth_base::{Call, Config, Func, Op, RES_SCHEDULER, ResId, Result, Service, TaskDecl};
 use std::alloc::Global;
+use text_pieces::push;
+
+/// The numbers of resources that are held, in the order taken.
+pub type Held = Vec<u32>;
 
 /// Whether a label's list is the held one.
 pub fn is_held(holds: &[ResId], held: &[u32]) -> bool
@@ -75,20 +79,10 @@ pub fn is_taken(held: &[u32], resource: u32) -> bool
     equals_one(held, resource)
 }
 
-fn taken_resources(ranks: &Ranks, func: FuncId) -> u64
-    ensures { result ≡ get_or ranks.now.resources func 0 }
-{
-    match ranks.resources.items().get(func.0 as usize) {
-        Some(resources) => *resources,
-        None => 0,
-    }
-}
-
 fn takes_one(taken: u64, held: &[u32]) -> bool
     ensures { result ≡ list_any (λ r. is_member taken r) held.now }
 {
-    held.iter()
-        .any(|resource| contains(taken, *resource as usize))
+    held.iter().any(|it| contains(taken, *it as usize))
 }
 
 /// V9: taking a resource of the held list; a call of a function that reaches taking one.
@@ -98,24 +92,12 @@ pub fn is_second_take(ranks: &Ranks, held: &[u32], op: Op) -> bool
     match op {
         Op::Serve(call) => matches!(call.service, Service::GetResource)
             && is_taken(held, call.object),
-        Op::Invoke { func } => takes_one(taken_resources(ranks, func), held),
+        Op::Invoke { func } => {
+            let resources = ranks.resources.items().get(func.0 as usize);
+            takes_one(resources.copied().unwrap_or(0), held)
+        },
         _ => false,
     }
-}
-
-fn pauses(ranks: &Ranks, func: FuncId) -> bool
-    ensures { result ≡ get_or ranks.now.pauses func false }
-{
-    match ranks.pauses.items().get(func.0 as usize) {
-        Some(pauses) => *pauses,
-        None => false,
-    }
-}
-
-fn leaves(service: Service) -> bool
-    ensures { result ≡ (is_ending service || is_pausing service) }
-{
-    is_ending(service) || matches!(service, Service::WaitEvent | Service::Schedule)
 }
 
 /// V10: an end, a wait, a Schedule or a `ret` while something is held, or a call of what reaches a wait or a Schedule.
@@ -123,20 +105,26 @@ pub fn is_leave_with_resource(ranks: &Ranks, held: &[u32], op: Op) -> bool
     ensures { result ≡ is_leave_with_resource ranks.now held.now op }
 {
     match op {
-        Op::Serve(call) => leaves(call.service) && !held.is_empty(),
+        Op::Serve(call) => {
+            let pauses = matches!(call.service, Service::WaitEvent | Service::Schedule);
+            (is_ending(call.service) || pauses) && !held.is_empty()
+        },
         Op::Return => !held.is_empty(),
-        Op::Invoke { func } => pauses(ranks, func) && !held.is_empty(),
+        Op::Invoke { func } => {
+            let pauses = ranks.pauses.items().get(func.0 as usize);
+            pauses.copied().unwrap_or(false) && !held.is_empty()
+        },
         _ => false,
     }
 }
 
-fn held_behind(held: Vec<u32>, call: Call) -> Result<Vec<u32>>
+fn held_behind(held: Held, call: Call) -> Result<Held>
     ensures { IfOk result (λ next. next.items ≡ held_behind call.service call.object held.items) }
 {
     let mut held = held;
     match call.service {
         Service::GetResource => {
-            held.push(call.object).map_err(|_| NoMemory)?;
+            push(&mut held, call.object)?;
             Ok(held)
         }
         Service::ReleaseResource => {
@@ -148,7 +136,7 @@ fn held_behind(held: Vec<u32>, call: Call) -> Result<Vec<u32>>
 }
 
 /// What is held behind the operation.
-pub fn held_after(held: Vec<u32>, op: Op) -> Result<Vec<u32>>
+pub fn held_after(held: Held, op: Op) -> Result<Held>
     ensures { IfOk result (λ next. next.items ≡ held_after op held.items) }
 {
     match op {
@@ -163,23 +151,99 @@ pub fn held_by(alloc: Global, holds: &[ResId]) -> Result<Vec<u32>>
 {
     let mut held = Vec::new(alloc);
     for resource in holds {
-        held.push(resource.0).map_err(|_| NoMemory)?;
+        push(&mut held, resource.0)?;
     }
     Ok(held)
 }
 
 /// What is held behind the last label of a place.
-pub fn held_at_label(
-    alloc: Global,
-    func: &Func,
-    last: Option<usize>,
-    held: Vec<u32>,
-) -> Result<Vec<u32>>
+pub fn held_at_label(alloc: Global, func: &Func, last: Option<usize>, held: Held) -> Result<Held>
     requires { (k : ℕ) → last ≡ Some k → k < length func.now.labels }
     ensures { IfOk result (λ next. next.items ≡ list_of func.now.labels last held.items) }
 {
     match last {
         Some(label) => held_by(alloc, func.labels.items()[label].holds.items()),
         None => Ok(held),
+    }
+}
+
+// The members of a set are below this.
+const SET_SIZE: usize = 64;
+
+/// Whether the set has this member.
+pub fn contains(set: u64, member: usize) -> bool
+    ensures { result ≡ is_member set member }
+{
+    member < SET_SIZE && has(set, member)
+}
+
+fn is_listed(resources: &[ResId], resource: u32) -> bool
+    ensures { result ≡ list_any (λ listed. listed == resource) resources.now }
+{
+    resources.iter().any(|listed| listed.0 == resource)
+}
+
+/// Whether the task lists the resource.
+pub fn lists(task: &TaskDecl, resource: u32) -> bool
+    ensures { result ≡ is_in resource task.now.resources }
+{
+    is_listed(task.resources.items(), resource)
+}
+
+fn is_unlisted(config: &Config, users: u64, resource: u32) -> bool
+    ensures { result ≡ is_unlisted config.now users resource }
+{
+    let mut unlisted = false;
+    for (number, task) in config.tasks.items().iter().enumerate() {
+        unlisted = unlisted || (contains(users, number) && !lists(task, resource));
+    }
+    unlisted
+}
+
+/// Whether the task lacks one of these events.
+pub fn lacks(config: &Config, task: usize, mask: u32) -> bool
+    requires { task < length config.now.tasks }
+    ensures { result ≡ lacks config.now task mask }
+{
+    mask & config.tasks.items()[task].events != mask
+}
+
+fn is_lacked(config: &Config, users: u64, mask: u32) -> bool
+    ensures { result ≡ is_lacked config.now users mask }
+{
+    let mut lacked = false;
+    for number in 0..config.tasks.items().len() {
+        lacked = lacked || (contains(users, number) && lacks(config, number, mask));
+    }
+    lacked
+}
+
+/// V12, where these tasks reach the item.
+pub fn is_undeclared_use(config: &Config, users: u64, op: Op) -> bool
+    requires { OperandsOf config.now op }
+    ensures { result ≡ is_undeclared_use config.now users op }
+{
+    let Op::Serve(call) = op else {
+        return false;
+    };
+    match call.service {
+        Service::GetResource | Service::ReleaseResource => {
+            call.object != RES_SCHEDULER && is_unlisted(config, users, call.object)
+        }
+        Service::ClearEvent | Service::WaitEvent => is_lacked(config, users, call.mask),
+        Service::SetEvent => lacks(config, call.object as usize, call.mask),
+        Service::GetEvent => !config.tasks.items()[call.object as usize].extended,
+        _ => false,
+    }
+}
+
+/// Whether it is the body of this task.
+pub fn is_task_body(func: &Func, task: usize) -> bool
+    ensures is { result ≡ is_number task func.now.task }
+    ensures owner { result ≡ true → func.now.task ≡ Some task }
+{
+    match func.task {
+        Some(owner) => owner.0 as usize == task,
+        None => false,
     }
 }

@@ -1,16 +1,16 @@
-//! V2 to V6, V11 and V12: the items of a body, one by one.
+//! V2 to V6, V11 and V12: the items of a body, one by one. V2, V3 and V4: accesses of the frame and of symbols.
 ghost use Rattle.std.specs.Prelude.{◌≡◌, ℕ, ◌<◌, ◌↔◌, length, IfOk};
 ghost use Rattle.sloth_base.specs.Search.{IsSearchResult};
 ghost use Rattle.code_rules.specs.AppRange.{AppInRange, IsOp};
-ghost use Rattle.sloth_base.specs.Named.{item_of};
+ghost use Rattle.sloth_base.specs.Named.{item_of, symbol_size};
 ghost use Rattle.task_verify.specs.Ways.{IsMarked, IsReachedItem};
 ghost use Rattle.task_verify.specs.Cases.{AccessFault, FlowFault, PathFault, ItemFaults, AreOps, AreUsers};
+ghost use Rattle.sloth_base.specs.Arithmetic.{size_of};
+ghost use Rattle.task_verify.specs.Tests.{is_access_past, is_uneven, is_mask_past};
 
-use crate::{
-    is_access_past, is_mask_past, is_run_out, is_undeclared_use, is_uneven, is_wrong_leave, reached,
-};
-use sloth_base::least_fault::{fault_if, merge};
-use sloth_base::{App, Code, Config, Func, Part, Refusal, Result};
+use crate::{Verdict, is_run_out, is_undeclared_use, is_wrong_leave, reached};
+use sloth_base::refusal::{fault_if, merge};
+use sloth_base::{App, Code, Config, Func, MASK_LIMIT, Op, Part, Refusal, SymId, Width};
 use std::alloc::Global;
 
 fn access_fault(app: &App, func: &Func, number: usize) -> Option<Refusal>
@@ -90,7 +90,7 @@ pub fn item_faults(
     body: usize,
     users: u64,
     func: &Func,
-) -> Result<Option<Refusal>>
+) -> Verdict
     requires in_range { AppInRange config.now app.now }
     requires users { AreUsers app.now body users }
     requires items { AreOps config.now app.now func.now }
@@ -101,4 +101,66 @@ pub fn item_faults(
     }
     let marks = reached(alloc, func)?;
     Ok(marked_faults(config, app, body, users, func, &marks))
+}
+
+fn size(width: Width) -> usize
+    ensures { result ≡ size_of width }
+{
+    match width {
+        Width::Byte | Width::ByteU => 1,
+        Width::Half | Width::HalfU => 2,
+        Width::Word => 4,
+    }
+}
+
+fn symbol_size(app: &App, symbol: SymId) -> usize
+    ensures { result ≡ symbol_size app.now symbol }
+{
+    match app.symbols.items().get(symbol.0 as usize) {
+        Some(symbol) => symbol.bytes.items().len(),
+        None => 0,
+    }
+}
+
+// A load or a store with these fields.
+macro_rules! access {
+    ($load:ident, $store:ident; $($field:ident),+) => {
+        Op::$load { $($field,)+ .. } | Op::$store { $($field,)+ .. }
+    };
+}
+
+/// V2: an access past the frame, or a direct access past its symbol.
+pub fn is_access_past(app: &App, func: &Func, op: Op) -> bool
+    ensures { result ≡ is_access_past app.now func.now op }
+{
+    match op {
+        Op::FrameLoad { word, .. } | Op::FrameStore { word, .. } => func.frame_words <= word,
+        access!(Load, Store; width, symbol, offset) => {
+            symbol_size(app, symbol) < offset as usize + size(width)
+        },
+        _ => false,
+    }
+}
+
+/// V3: a direct offset or a mask that is no multiple of the access size.
+pub fn is_uneven(op: Op) -> bool
+    ensures { result ≡ is_uneven op }
+{
+    match op {
+        access!(Load, Store; width, offset) => offset as usize % size(width) != 0,
+        access!(LoadAt, StoreAt; width, mask) => mask as usize % size(width) != 0,
+        _ => false,
+    }
+}
+
+/// V4: a mask above the greatest, or mask plus access size above the symbol's size.
+pub fn is_mask_past(app: &App, op: Op) -> bool
+    ensures { result ≡ is_mask_past app.now op }
+{
+    match op {
+        access!(LoadAt, StoreAt; width, symbol, mask) => {
+            mask > MASK_LIMIT || symbol_size(app, symbol) < mask as usize + size(width)
+        },
+        _ => false,
+    }
 }

@@ -5,8 +5,9 @@ ghost use Rattle.sloth_base.specs.Named.{label_of};
 ghost use Rattle.task_verify.specs.Labels.{or_else, first_label_below, last_label_below, ArePlaced};
 ghost use Rattle.task_verify.specs.Cases.{IsBehindOther, LabelFault, LabelFaults};
 
-use sloth_base::least_fault::{fault_if, merge};
-use sloth_base::{Code, Func, Label, NoMemory, Part, Refusal, ResId, Result};
+use crate::Verdict;
+use sloth_base::refusal::{fault_if, merge};
+use sloth_base::{Code, Func, Label, Part, Refusal, ResId, Result};
 use std::alloc::Global;
 use text_pieces::push;
 
@@ -15,11 +16,7 @@ pub fn no_labels(alloc: Global, count: usize) -> Result<Vec<Option<usize>>>
     ensures count { IfOk result (λ places. length places.items ≡ count) }
     ensures clear { IfOk result (λ places. (place : ℕ) → place < count → get_or places.items place None ≡ None) }
 {
-    let mut places = Vec::new(alloc);
-    for place in 0..count {
-        push(&mut places, None)?;
-    }
-    Ok(places)
+    Ok(vec![in alloc; None; count]?)
 }
 
 /// The last label at each place, also behind the last item.
@@ -84,7 +81,6 @@ fn have_other_lists(func: &Func, one: usize, other: usize) -> bool
     !same_list(labels[one].holds.items(), labels[other].holds.items())
 }
 
-/// Whether the label before this one at the same place has another list.
 fn is_behind_other(func: &Func, number: usize, before: Option<usize>) -> bool
     requires inside { number < length func.now.labels }
     requires before { before ≡ last_label_below func.now.labels (label_of func.now number).item number }
@@ -133,7 +129,7 @@ fn labels_before(alloc: Global, func: &Func) -> Result<Vec<Option<usize>>>
     let mut before = Vec::new(alloc);
     for (number, label) in func.labels.items().iter().enumerate() {
         let place = label.item as usize;
-        before.push(places[place]).map_err(|_| NoMemory)?;
+        push(&mut before, places[place])?;
         places[place] = Some(number);
     }
     Ok(before)
@@ -153,7 +149,7 @@ fn judged_labels(func: &Func, before: &[Option<usize>]) -> Option<Refusal>
 }
 
 /// V7 of labels that stand behind others at their place, or before the first item.
-pub fn label_faults(alloc: Global, func: &Func) -> Result<Option<Refusal>>
+pub fn label_faults(alloc: Global, func: &Func) -> Verdict
     requires { ArePlaced func.now }
     ensures { IfOk result (IsSearchResult (LabelFaults func.now)) }
 {

@@ -1,11 +1,6 @@
 //! The verifier: V2 to V12 judged exactly, and task code that keeps them.
-//!
-//! With ranks that belong to the task code, `verify` gives exactly the least of V2 to V12, or both, which are
-//! well formed (`Verified`, `specs/Accepted`).
-//!
-//! Of one body (where its items go on, what its labels hold, what each item may do): `body_fault` finds exactly the
-//! least of V2 to V12 of a body, or none. How the rules are judged, in parts: `specs/Cases`, `specs/Tests`,
-//! `specs/Ways`, `specs/Labels`. The rules: `code_rules` (`WellFormed`); what a function reaches: `call_graph`.
+//! `verify`: the least of V2 to V12, or both, which are well formed (`Verified`, `specs/Accepted`). The rules, in
+//! parts: `specs/Cases`, `specs/Tests`, `specs/Ways`, `specs/Labels`.
 #![tactic(auto)]
 
 ghost use Rattle.std.specs.Prelude.{◌≡◌, IfErr, IfOk, OnOk};
@@ -21,32 +16,26 @@ macro_rules! line_fault {
     };
 }
 
-pub mod accesses;
 pub mod bodies;
 pub mod held_resources;
 pub mod items;
 pub mod labels;
-pub mod reachable;
-pub mod tasks;
 pub mod verified;
 pub mod ways;
 
 use crate::bodies::judge;
-pub use accesses::{is_access_past, is_mask_past, is_uneven};
-pub use bodies::is_fallen_into;
+pub use bodies::{Verdict, is_fallen_into};
 use call_graph::Ranks;
 pub use held_resources::{
     held_after, held_at_label, held_by, is_held, is_leave_with_resource, is_other_list_jump,
-    is_second_take, is_wrong_release,
+    is_second_take, is_undeclared_use, is_wrong_release,
 };
-pub use items::item_faults;
+pub use items::{is_access_past, is_mask_past, is_uneven, item_faults};
 pub use labels::last_labels;
-pub use reachable::reached;
 use sloth_base::{App, BuildError, Config};
 use std::alloc::Global;
-pub use tasks::is_undeclared_use;
 pub use verified::Verified;
-pub use ways::{falls, is_run_out, is_wrong_leave, jump_of, next_of, way};
+pub use ways::{falls, is_run_out, is_wrong_leave, jump_of, next_of, reached, way};
 
 /// A configuration and its task code, where no rule of V2 to V12 has a fault; else the least fault.
 pub fn verify(

@@ -1,12 +1,11 @@
 //! A text cut at a byte, and at its line ends.
 ghost use Rattle.std.specs.Prelude.{◌≡◌, ◌==◌, IfOk, map};
 ghost use Rattle.std.specs.List.{slice_split};
-ghost use Rattle.std.specs.Str.Lines.{strip_carriage_return};
 ghost use Rattle.text_pieces.specs.Lines.{line_of, lines, without_returns};
 ghost use Rattle.text_pieces.specs.Names.{referent};
 
-use crate::{front, push};
-use sloth_base::Result;
+use crate::front;
+use sloth_base::{Result, push};
 use std::alloc::{AllocError, Global};
 
 /// The parts between the bytes `stop`.
@@ -16,25 +15,14 @@ pub fn split<'a>(alloc: Global, text: &'a [u8], stop: u8) -> Result<Vec<&'a [u8]
     text.split(|b| *b == stop).collect(alloc)
 }
 
-fn strip_carriage_return(line: &[u8]) -> &[u8]
-    ensures { result.now ≡ strip_carriage_return line.now }
-{
-    if !line.is_empty() && line[line.len() - 1] == b'\r' {
-        front(line, line.len() - 1)
-    } else {
-        line
-    }
-}
-
 /// A line without the CR before its LF. The last one has no LF.
 pub fn line_of<'a>(part: &'a [u8], is_last: bool) -> &'a [u8]
     ensures { result.now ≡ line_of is_last part.now }
 {
-    if is_last {
-        part
-    } else {
-        strip_carriage_return(part)
+    if is_last || part.is_empty() || part[part.len() - 1] != b'\r' {
+        return part;
     }
+    front(part, part.len() - 1)
 }
 
 // The lines of the parts between LF bytes.

@@ -5,13 +5,12 @@
 
 pub mod bytes;
 pub mod cutting;
-pub mod growth;
 pub mod names;
 pub mod numerals;
 pub mod pieces;
 
 pub use bytes::{after, before, behind, continues_word, front, has, is_name, same};
 pub use cutting::{line_of, lines, split};
-pub use growth::push;
 pub use names::Names;
 pub use numerals::value;
+pub use sloth_base::push;

@@ -3,9 +3,8 @@ ghost use Rattle.std.specs.Prelude.{◌≡◌, ℕ, List, [], ◌∷◌, ◌++�
 ghost use Rattle.std.specs.List.{list_any};
 ghost use Rattle.text_pieces.specs.Names.{number_in, with_first};
 
-use crate::push;
 use indexmap::IndexMap;
-use sloth_base::Result;
+use sloth_base::{Result, push};
 use std::alloc::{AllocError, Global};
 use std::marker::Model;
 
@@ -34,18 +33,14 @@ impl<'t> Model for Names<'t> {
 }
 
 /// The number of a name, unless it has one.
-fn number_first<'t>(
-    first: &mut IndexMap<&'t [u8], usize>,
-    name: &'t [u8],
-    number: usize,
-) -> Result<()>
+fn number_first<'t>(first: &mut IndexMap<&'t [u8], usize>, name: &'t [u8], at: usize) -> Result<()>
     ensures { OnOk result ((word : List ℕ)
-        → number_in first.new word ≡ with_first (number_in first.old) name.now number word) }
+        → number_in first.new word ≡ with_first (number_in first.old) name.now at word) }
 {
     if first.contains_key(&name) {
         return Ok(());
     }
-    match first.insert(name, number) {
+    match first.insert(name, at) {
         Ok(_) => Ok(()),
         Err(failed) => Err(AllocError::from(failed).into()),
     }

@@ -1,6 +1,6 @@
 //! Text, put piece by piece.
-ghost use Rattle.std.specs.Prelude.{◌≡◌, ◌++◌, IfOk, OnOk, decimal};
-ghost use Rattle.text_pieces.specs.Pieces.{written, all_written, each_written};
+ghost use Rattle.std.specs.Prelude.{◌≡◌, ◌++◌, IfOk, OnOk};
+ghost use Rattle.text_pieces.specs.Pieces.{written, all_written};
 
 use itoa::Buffer;
 use sloth_base::Result;
@@ -35,58 +35,26 @@ macro_rules! text {
     };
 }
 
-fn put_number(text: &mut Vec<u8>, number: u32) -> Result<()>
-    ensures { OnOk result (text.new.items ≡ text.old.items ++ decimal number) }
-{
-    let mut buffer = Buffer::new();
-    text.extend_from_slice(buffer.format(number).as_bytes())?;
-    Ok(())
-}
-
-fn put_count(text: &mut Vec<u8>, count: usize) -> Result<()>
-    ensures { OnOk result (text.new.items ≡ text.old.items ++ decimal count) }
-{
-    let mut buffer = Buffer::new();
-    text.extend_from_slice(buffer.format(count).as_bytes())?;
-    Ok(())
-}
-
-fn put_sum(text: &mut Vec<u8>, sum: u128) -> Result<()>
-    ensures { OnOk result (text.new.items ≡ text.old.items ++ decimal sum) }
-{
-    let mut buffer = Buffer::new();
-    text.extend_from_slice(buffer.format(sum).as_bytes())?;
-    Ok(())
-}
-
 fn put_piece(text: &mut Vec<u8>, piece: &Piece) -> Result<()>
     ensures { OnOk result (text.new.items ≡ text.old.items ++ written piece.now) }
 {
+    let mut buffer = Buffer::new();
     match *piece {
-        Piece::Word(word) => {
-            text.extend_from_slice(word)?;
-            Ok(())
-        },
-        Piece::Number(number) => put_number(text, number),
-        Piece::Count(count) => put_count(text, count),
-        Piece::Sum(sum) => put_sum(text, sum),
+        Piece::Word(word) => Ok(text.extend_from_slice(word)?),
+        Piece::Number(number) => Ok(text.extend_from_slice(buffer.format(number).as_bytes())?),
+        Piece::Count(count) => Ok(text.extend_from_slice(buffer.format(count).as_bytes())?),
+        Piece::Sum(sum) => Ok(text.extend_from_slice(buffer.format(sum).as_bytes())?),
     }
-}
-
-fn put_each(text: &mut Vec<u8>, pieces: &[Piece]) -> Result<()>
-    ensures { OnOk result (text.new.items ≡ text.old.items ++ each_written pieces.now) }
-{
-    for piece in pieces {
-        put_piece(text, piece)?;
-    }
-    Ok(())
 }
 
 /// Puts the pieces, one after another.
 pub fn put(text: &mut Vec<u8>, pieces: &[Piece]) -> Result<()>
     ensures { OnOk result (text.new.items ≡ text.old.items ++ all_written pieces.now) }
 {
-    put_each(text, pieces)
+    for piece in pieces {
+        put_piece(text, piece)?;
+    }
+    Ok(())
 }
 
 /// The text of the pieces.

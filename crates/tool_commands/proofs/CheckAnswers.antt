@@ -1,8 +1,8 @@
 -- `check` has one answer to each four files.
 use Rattle.std.proofs.Common.{◌≡◌, ◌∙◌, ℕ, List, refl, sym, ap}
 use Rattle.sloth_base.specs.declared.refusal.Refusal.{Refusal}
-use Rattle.trace_check.specs.declared.verdict.Verdict.{Verdict}
-use Rattle.trace_check.specs.declared.verdict.Verdict.TheVariants as verdict
+use Rattle.trace_check.specs.declared.rows.Verdict.{Verdict}
+use Rattle.trace_check.specs.declared.rows.Verdict.TheVariants as verdict
 use Rattle.trace_check.specs.TraceAnswers.{IsJudged}
 use Rattle.run_inputs.specs.Inputs.{IsRefusal}
 use Rattle.trace_check.proofs.OneAnswer.{one_judged}

@@ -3,12 +3,12 @@ use Rattle.std.proofs.Common.{◌≡◌, ◌∙◌, ℕ, List, length, refl, sym
 use Rattle.sloth_base.specs.declared.image.Image.{Image}
 use Rattle.image_file.specs.ImageText.{image_bytes}
 use Rattle.image_file.specs.Faults.{IsFirstImageFault as ImageFaulty}
-use Rattle.image_file.specs.declared.fault.ImageFault.{ImageFault}
+use Rattle.image_file.specs.declared.read.ImageFault.{ImageFault}
 use Rattle.image_file.proofs.Faulted.{fault_is_one as one_image_fault, none_is_both as no_image_and_fault}
 use Rattle.image_file.proofs.Images.{image-unique}
 use Rattle.elf_image.specs.ElfText.{file_bytes, description_bytes}
 use Rattle.elf_image.specs.Faults.{IsFirstElfFault as ElfFaulty}
-use Rattle.image_file.specs.declared.fault.ElfFault.{ElfFault}
+use Rattle.image_file.specs.declared.read.ElfFault.{ElfFault}
 use Rattle.elf_image.proofs.Faulted.{elf-unique, fault_is_one as one_elf_fault, none_is_both as no_elf_and_fault}
 use Rattle.tool_commands.specs.ElfAnswers.{AreOfOneImage, IsElfAnswer, IsUnelfAnswer}
 use Rattle.tool_commands.specs.Lines.{written_line}

@@ -6,8 +6,8 @@ use Rattle.sloth_source.proofs.RankedTexts.{early_first}
 use Rattle.sloth_source.proofs.Unique.{never_both}
 use Rattle.command_line.specs.declared.answer.ToolAnswer.{ToolAnswer}
 use Rattle.command_line.specs.declared.answer.ToolAnswer.TheVariants as answer
-use Rattle.command_line.specs.declared.status.Explanation.{Explanation}
-use Rattle.command_line.specs.declared.status.Explanation.TheVariants as explanation
+use Rattle.command_line.specs.declared.answer.Explanation.{Explanation}
+use Rattle.command_line.specs.declared.answer.Explanation.TheVariants as explanation
 use Rattle.tool_commands.specs.WhyAnswers.{IsExplained, IsWhyAnswer}
 use Rattle.tool_commands.specs.LabelsAnswers.{AreRefusedEarly, IsLabelsAnswer, IsLabelsExplained}
 

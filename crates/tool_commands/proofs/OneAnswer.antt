@@ -5,7 +5,7 @@ use Rattle.std.proofs.lemmas.Bool.{false≢true}
 use Rattle.sloth_base.specs.declared.image.Image.{Image}
 use Rattle.image_file.specs.ImageText.{ImageText}
 use Rattle.image_file.specs.Faults.{IsFirstImageFault}
-use Rattle.image_file.specs.declared.fault.ImageFault.{ImageFault}
+use Rattle.image_file.specs.declared.read.ImageFault.{ImageFault}
 use Rattle.command_line.specs.Tools.{file_count, number_of, window_of}
 use Rattle.command_line.specs.declared.counts.Counts.{Counts}
 use Rattle.command_line.specs.declared.tool.Tool.{Tool}

@@ -6,10 +6,10 @@ use Rattle.sloth_base.specs.declared.refusal.Refusal.{Refusal}
 use Rattle.sloth_base.specs.Order.{NoFault}
 use Rattle.image_file.specs.ImageText.{ImageText}
 use Rattle.image_file.specs.Faults.{IsFirstImageFault}
-use Rattle.image_file.specs.declared.fault.ImageFault.{ImageFault}
+use Rattle.image_file.specs.declared.read.ImageFault.{ImageFault}
 use Rattle.image_file.proofs.Faulted.{fault_is_one, none_is_both}
 use Rattle.image_file.proofs.Images.{image-unique}
-use Rattle.rv32_instr.specs.declared.effect.Stop.{Stop}
+use Rattle.rv32_instr.specs.declared.encoding.Stop.{Stop}
 use Rattle.trace_text.specs.ArrivalsText.{ArrivalsFault, arrivals_in}
 use Rattle.sloth_runner.specs.Runner.{run_end}
 use Rattle.sloth_runner.specs.declared.runner.RunEnd.TheVariants as ends

@@ -7,8 +7,8 @@ use Rattle.holds_infer.specs.LabelAnswers.{IsLabelAnswer}
 use Rattle.holds_infer.specs.declared.label_answers.LabelAnswer.TheVariants as label
 use Rattle.command_line.specs.declared.answer.ToolAnswer.{ToolAnswer}
 use Rattle.command_line.specs.declared.answer.ToolAnswer.TheVariants as answer
-use Rattle.command_line.specs.declared.status.Explanation.{Explanation}
-use Rattle.command_line.specs.declared.status.Explanation.TheVariants as explanation
+use Rattle.command_line.specs.declared.answer.Explanation.{Explanation}
+use Rattle.command_line.specs.declared.answer.Explanation.TheVariants as explanation
 
 -- that the texts have a refusal before the rules of task code
 abbrev pub AreRefusedEarly : (oil src : List ℕ) → Type 0

@@ -1,12 +1,12 @@
 -- The answers of `why` of a text of events.
 use Rattle.std.specs.Prelude.{ℕ, ◌≡◌, List, [], codes}
-use Rattle.trace_check.specs.declared.verdict.Verdict.TheVariants as verdict
+use Rattle.trace_check.specs.declared.rows.Verdict.TheVariants as verdict
 use Rattle.trace_check.specs.TraceAnswers.{IsJudged}
 use Rattle.run_inputs.specs.Inputs.{IsRefusal}
 use Rattle.trace_check.specs.Reasons.{IsNo}
 use Rattle.command_line.specs.declared.answer.ToolAnswer.{ToolAnswer}
 use Rattle.command_line.specs.declared.answer.ToolAnswer.TheVariants as answer
-use Rattle.command_line.specs.declared.status.Explanation.TheVariants as explanation
+use Rattle.command_line.specs.declared.answer.Explanation.TheVariants as explanation
 
 -- that the text of events is that of a run with these arrivals, or where it fails to be and what could stand there; or the first refusal of the other texts
 abbrev pub IsTraceReasonAnswer : (oil src arr text : List ℕ) → ℕ → ToolAnswer → Type 0

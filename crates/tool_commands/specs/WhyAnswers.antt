@@ -8,7 +8,7 @@ use Rattle.why_text.specs.WhyLines.{AreAcceptedTexts, IsWhy}
 use Rattle.why_text.specs.declared.explaining.Why.TheVariants as why
 use Rattle.command_line.specs.declared.answer.ToolAnswer.{ToolAnswer}
 use Rattle.command_line.specs.declared.answer.ToolAnswer.TheVariants as answer
-use Rattle.command_line.specs.declared.status.Explanation.TheVariants as explanation
+use Rattle.command_line.specs.declared.answer.Explanation.TheVariants as explanation
 
 -- the line of the first refusal, and the lines behind it
 pub record IsExplained (oil src text : List ℕ) : Type 0 where

@@ -5,7 +5,7 @@ ghost use Rattle.tool_commands.specs.ElfAnswers.{IsElfAnswer, IsUnelfAnswer};
 ghost use Rattle.sloth_base.specs.Limits.{file_limit};
 ghost use Rattle.tool_commands.specs.SymbolsAnswers.{IsSymbolsAnswer};
 
-use crate::lines::written_line;
+use crate::judging::written_line;
 use command_line::{Outcome, ToolAnswer};
 use elf_image::{read_elf, write_elf};
 use image_file::{ElfError, ImageError, read_image, write_image};

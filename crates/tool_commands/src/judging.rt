@@ -1,19 +1,24 @@
-//! The answer of a tool.
+//! The answer of a tool. The lines of tools.
 ghost use Rattle.std.specs.Prelude.{◌≡◌, ◌≤◌, ◌<◌, IfOk, All, length};
 ghost use Rattle.sloth_base.specs.Limits.{file_limit};
 ghost use Rattle.command_line.specs.Command.{words_of};
 ghost use Rattle.command_line.specs.Tools.{input_count, file_count, counts_limit, AreCounts};
 ghost use Rattle.tool_commands.specs.Answers.{IsAnswer, input};
+ghost use Rattle.tool_commands.specs.Lines.{written_line};
+ghost use Rattle.command_line.specs.Lines.{elf_fault_text, no_elf_line, bad_trace_line};
 
 use crate::elf_commands::{elf, symbols, unelf};
 use crate::response_command::{response, run_response, task_response};
 use crate::run_commands::{at, at_all, picture, wave};
 use crate::source_commands::{bounds, latency, losses, lower_counts, map, orti, shares, unused};
 use crate::why_command::{infer, labels, task_bound, trace_reason, why};
-use command_line::{Counts, Tool, ToolAnswer, number_of, window_of};
+use command_line::{Counts, Tool, ToolAnswer, TraceFault, number_of, window_of};
+use image_file::ElfFault;
+use itoa::Buffer;
 use sloth_base::{List, Result};
 use std::alloc::Global;
-use trace_check::answer::check;
+use trace_check::lines::check;
+use trace_text::LineText;
 
 // A name, by its place in the order of the words.
 fn name(names: &[String], place: usize) -> &[u8]
@@ -87,4 +92,63 @@ pub fn judge(
         Tool::Unused => unused(alloc, first, second),
         Tool::RunResponse => run_response(alloc, first, second, third, fourth, n),
     }
+}
+
+fn elf_fault_text(fault: ElfFault) -> &'static [u8]
+    ensures is { result.now ≡ elf_fault_text fault }
+    ensures short { length result.now ≤ 2 }
+{
+    match fault {
+        ElfFault::E1 => b"E1",
+        ElfFault::E2 => b"E2",
+        ElfFault::E3 => b"E3",
+        ElfFault::E4 => b"E4",
+        ElfFault::E5 => b"E5",
+        ElfFault::E6 => b"E6",
+        ElfFault::E7 => b"E7",
+        ElfFault::E8 => b"E8",
+    }
+}
+
+/// The line of a file that is no image's ELF file: its first fault.
+pub fn no_elf_line(fault: ElfFault) -> LineText
+    ensures { result ≡ no_elf_line fault }
+{
+    let mut line = LineText::new();
+    line.push(b"not an elf ");
+    line.push(elf_fault_text(fault));
+    line.push(b"\n");
+    line
+}
+
+/// The line of a text that is no trace.
+pub fn bad_trace_line(fault: TraceFault) -> LineText
+    ensures { result ≡ bad_trace_line fault }
+{
+    let mut line = LineText::new();
+    line.push(b"no ");
+    match fault {
+        TraceFault::Line(k) => {
+            line.push_number(k);
+            line.push(b" line\n");
+        }
+        TraceFault::Step(k) => {
+            line.push_number(k);
+            line.push(b" step\n");
+        }
+        TraceFault::Time => line.push(b"time\n"),
+    }
+    line
+}
+
+/// The line of a tool that wrote a file: its length, in bytes.
+pub fn written_line(length: usize) -> LineText
+    ensures { result ≡ written_line length }
+{
+    let mut buffer = Buffer::new();
+    let mut line = LineText::new();
+    line.push(b"written ");
+    line.push(buffer.format(length).as_bytes());
+    line.push(b"\n");
+    line
 }

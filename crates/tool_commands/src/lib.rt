@@ -19,16 +19,13 @@ macro_rules! answer {
     };
 }
 
-pub mod at_lines;
 mod elf_commands;
 pub mod judging;
 pub mod laws;
-pub mod lines;
-mod response_command;
+pub mod response_command;
 mod run_commands;
 mod source_commands;
 mod why_command;
 
 pub use command_line::{Outcome, ToolAnswer, TraceFault};
-pub use judging::judge;
-pub use lines::{bad_trace_line, no_elf_line};
+pub use judging::{bad_trace_line, judge, no_elf_line};

@@ -13,8 +13,8 @@ ghost use Rattle.tool_commands.specs.AtAllAnswers.{IsAtAllAnswer, all_text};
 ghost use Rattle.tool_commands.specs.PictureAnswers.{IsPictureAnswer};
 ghost use Rattle.tool_commands.specs.WaveAnswers.{IsWaveAnswer};
 
-use crate::at_lines::{count_line, states_text};
 use crate::elf_commands::written;
+use crate::response_command::{count_line, states_text};
 use command_line::{ToolAnswer, Window, told};
 use run_inputs::{RunInputs, Unread, read_run};
 use run_samples::{ServiceWords, WordsRead, push_system, words_at};

@@ -1,11 +1,12 @@
 -- Lists of numbers with the same counts: they are as long, and where both rise they are the same.
 use Rattle.std.proofs.Common.{◌≡◌, ◌∙◌, ℕ, suc, ◌+◌, ◌<◌, ◌≤◌, ◌⊎◌, inl, inr, List, [], ◌∷◌, ◌++◌, cond, length, get_or, refl, sym, ap, arith}
-use Rattle.std.specs.Prelude.{◌==◌}
+use Rattle.std.specs.Prelude.{◌==◌, count_by}
 use Rattle.std.specs.List.{sum_by}
 use Rattle.std.specs.List.Sorted.{IsPermutation, IsNonDecreasing}
 use Rattle.std.proofs.lemmas.Bool.{eq-eqb, ne_eqb, cases_eq, cases_order}
-use Rattle.std.proofs.lemmas.List.Sums.{sum_by-cons}
+use Rattle.std.proofs.lemmas.List.Sums.{sum_by-cons, count_by-le-length}
 use Rattle.std.proofs.lemmas.List.Sorted.{sum_by-IsPermutation}
+use Rattle.sloth_base.specs.declared.config.AlarmDecl.{AlarmDecl}
 use Rattle.trace_check.specs.Counts.{times, SameCounts}
 
 pub times_here : (x : ℕ) (xs : List ℕ) → times x (x ∷ xs) ≡ 1 + times x xs
@@ -104,3 +105,7 @@ rises (x ∷ xs) h = (
   from_index x xs (λ k l. h 0 (suc k) 0 (omega arith) (omega (arith, l))),
   rises xs (λ i j d le l. h (suc i) (suc j) d (omega (arith, le)) (omega (arith, l))),
 )
+
+-- no counter has more alarms than there are
+pub few_alarms : (alarms : List AlarmDecl) (counter count : ℕ) → count ≡ count_by (λ alarm. alarm.counter == counter) alarms → count ≤ length alarms
+few_alarms alarms counter count is = let few = count_by-le-length (λ (alarm : AlarmDecl). alarm.counter == counter) alarms in omega (arith, few, is)

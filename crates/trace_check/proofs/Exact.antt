@@ -15,8 +15,8 @@ use Rattle.trace_check.specs.Walk.{HasStrayAt}
 use Rattle.sloth_base.specs.DeclaredNames.{task_names, counter_names, function_names}
 use Rattle.trace_check.specs.Verdicts.{Checked, IsFirstStray, IsLate}
 use Rattle.trace_check.specs.Answer.{IsVerdict}
-use Rattle.trace_check.specs.declared.verdict.Verdict.{Verdict}
-use Rattle.trace_check.specs.declared.verdict.Verdict.TheVariants as verdict
+use Rattle.trace_check.specs.declared.rows.Verdict.{Verdict}
+use Rattle.trace_check.specs.declared.rows.Verdict.TheVariants as verdict
 use Rattle.trace_check.proofs.TraceText.{shows_one, bad_shows_none, one_bad}
 use Rattle.trace_check.proofs.Walking.{run_front}
 

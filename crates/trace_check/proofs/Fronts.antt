@@ -4,7 +4,7 @@ use Rattle.std.proofs.lemmas.List.Elements.{All-head}
 use Rattle.std.proofs.Math.Seq.{take-append_seam}
 use Rattle.sloth_base.specs.ImageRange.{AreNamesApart, AreNames}
 use Rattle.sloth_base.specs.DeclaredNames.{AreNamesOf, task_names, function_names, counter_names}
-use Rattle.sloth_base.specs.declared.declared_names.DeclaredNames.{DeclaredNames}
+use Rattle.sloth_base.specs.declared.config.DeclaredNames.{DeclaredNames}
 use Rattle.sloth_base.specs.declared.config.Config.{Config}
 use Rattle.sloth_base.specs.declared.app.App.{App}
 use Rattle.sloth_base.specs.declared.service.Stamped.{Stamped}

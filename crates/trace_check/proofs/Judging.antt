@@ -24,7 +24,7 @@ use Rattle.trace_text.specs.EventNumbers.{HasEventNumbers}
 use Rattle.trace_check.specs.Counts.{AreLinesInRange, IsLineInRange}
 use Rattle.trace_check.specs.TraceText.{AreReadable, HasNoFirstLine, HasLine, IsFirstBad, IsEventText}
 use Rattle.sloth_base.specs.DeclaredNames.{AreNamesOf, task_names, counter_names, function_names}
-use Rattle.sloth_base.specs.declared.declared_names.DeclaredNames.{DeclaredNames}
+use Rattle.sloth_base.specs.declared.config.DeclaredNames.{DeclaredNames}
 use Rattle.trace_check.proofs.ReadEvents.{HasRead}
 use Rattle.trace_check.specs.Walk.{HasStrayAt, IsWalked, IsWalkOrStray, Walk}
 use Rattle.trace_check.proofs.TraceText.{reads_all}

@@ -6,12 +6,12 @@ use Rattle.sloth_base.specs.declared.service.Arrival.{Arrival}
 use Rattle.sloth_source.proofs.Unique.{one_meaning}
 use Rattle.trace_text.specs.ArrivalsText.{arrivals_in}
 use Rattle.trace_check.specs.Answer.{IsVerdict}
-use Rattle.trace_check.specs.declared.verdict.Verdict.{Verdict}
+use Rattle.trace_check.specs.declared.rows.Verdict.{Verdict}
 use Rattle.trace_check.proofs.Exact.{one_verdict}
 use Rattle.sloth_base.specs.DeclaredNames.{task_names, counter_names}
 use Rattle.trace_check.specs.TraceAnswers.{IsJudged, IsTraceAnswer}
-use Rattle.trace_check.specs.declared.answer.TraceAnswer.{TraceAnswer}
-use Rattle.trace_check.specs.declared.answer.TraceAnswer.TheVariants as answer
+use Rattle.trace_check.specs.declared.lines.TraceAnswer.{TraceAnswer}
+use Rattle.trace_check.specs.declared.lines.TraceAnswer.TheVariants as answer
 use Rattle.run_inputs.proofs.Refused.{not-refused, one-way}
 
 module _ (oil src arr trace : List ℕ) (n : ℕ) where

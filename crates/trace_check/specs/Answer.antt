@@ -6,8 +6,8 @@ use Rattle.sloth_base.specs.declared.service.Arrival.{Arrival}
 use Rattle.trace_check.specs.TraceText.{IsFirstBad}
 use Rattle.sloth_base.specs.DeclaredNames.{task_names, counter_names, function_names}
 use Rattle.trace_check.specs.Verdicts.{Checked, IsFirstStray, IsLate}
-use Rattle.trace_check.specs.declared.verdict.Verdict.{Verdict}
-use Rattle.trace_check.specs.declared.verdict.Verdict.TheVariants as verdict
+use Rattle.trace_check.specs.declared.rows.Verdict.{Verdict}
+use Rattle.trace_check.specs.declared.rows.Verdict.TheVariants as verdict
 
 abbrev pub IsVerdict : Config → App → List Arrival → List ℕ → ℕ → Verdict → Type 0
 IsVerdict config app arrivals text n verdict.Yes = Checked config app arrivals text n

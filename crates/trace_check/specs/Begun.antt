@@ -6,7 +6,7 @@ use Rattle.sloth_base.specs.Limits.{counter_limit}
 use Rattle.trace_check.specs.Timed.{KeptPass, TimedBy}
 use Rattle.trace_check.specs.Walk.{IsWalked, Walk}
 use Rattle.sloth_base.specs.DeclaredNames.{AreNamesOf}
-use Rattle.sloth_base.specs.declared.declared_names.DeclaredNames.{DeclaredNames}
+use Rattle.sloth_base.specs.declared.config.DeclaredNames.{DeclaredNames}
 
 -- these names, a walk before its first event, and a look at the arrivals before its first event
 pub record IsBegun (config : Config) (app : App) (names : DeclaredNames) (walk : Walk) (timing : KeptPass) : Type 0 where

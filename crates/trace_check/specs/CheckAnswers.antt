@@ -1,7 +1,7 @@
 -- The answer of `check`.
 use Rattle.std.specs.Prelude.{ℕ, ◌≡◌, List, [], codes}
-use Rattle.trace_check.specs.declared.verdict.Verdict.{Verdict}
-use Rattle.trace_check.specs.declared.verdict.Verdict.TheVariants as verdict
+use Rattle.trace_check.specs.declared.rows.Verdict.{Verdict}
+use Rattle.trace_check.specs.declared.rows.Verdict.TheVariants as verdict
 use Rattle.trace_check.specs.TraceAnswers.{IsJudged}
 use Rattle.run_inputs.specs.Inputs.{IsRefusal}
 use Rattle.command_line.specs.declared.answer.ToolAnswer.{ToolAnswer}

@@ -1,12 +1,12 @@
 -- The events of the lines in front of one.
 use Rattle.std.specs.Prelude.{ℕ, ◌+◌, ◌≡◌, ◌⊎◌, List, ◌++◌, All, length}
 use Rattle.sloth_base.specs.DeclaredNames.{AreNamesOf}
-use Rattle.sloth_base.specs.declared.declared_names.DeclaredNames.{DeclaredNames}
+use Rattle.sloth_base.specs.declared.config.DeclaredNames.{DeclaredNames}
 use Rattle.sloth_base.specs.declared.config.Config.{Config}
 use Rattle.sloth_base.specs.declared.app.App.{App}
 use Rattle.sloth_base.specs.declared.service.Stamped.{Stamped}
 use Rattle.trace_check.specs.TraceText.{HasFirstLine, HasLine, HasNoFirstLine, text_of}
-use Rattle.trace_check.specs.Walk.{IsWalked, IsWalkEnd, IsWalkStep, Walk}
+use Rattle.trace_check.specs.Walk.{IsWalked, IsWalkEnd, Walk}
 
 -- these are the events of the lines in front of line k
 pub record AreEventsBefore (config : Config) (app : App) (names : DeclaredNames) (trace : List ℕ) (k : ℕ) (past : List Stamped) : Type 0 where
@@ -21,12 +21,6 @@ pub record IsFront (config : Config) (app : App) (names : DeclaredNames) (trace 
   pub past : List Stamped
   pub before : AreEventsBefore config app names trace k past
   pub walked : IsWalked config app past walk
-
--- the first line of the text is an event's, which leads from one walk to another
-pub record IsLineStep (names : DeclaredNames) (text : List ℕ) (old new : Walk) : Type 0 where
-  pub event : Stamped
-  pub first : HasFirstLine names.tasks names.funcs names.counters text event
-  pub step : IsWalkStep event old new
 
 -- the first line of the text is an event's, which leads to no walk
 pub record IsLineStray (names : DeclaredNames) (text : List ℕ) (old : Walk) : Type 0 where

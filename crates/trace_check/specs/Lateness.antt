@@ -3,8 +3,8 @@ use Rattle.std.specs.Prelude.{ℕ, ◌+◌, ◌-◌, ◌/◌, ◌%◌, ◌<◌, 
 use Rattle.sloth_base.specs.declared.service.Arrival.{Arrival}
 use Rattle.sloth_base.specs.declared.service.Stamped.{Stamped}
 use Rattle.osek_scheduler.specs.InTime.{AreAllAdmitted, IsOrdered, IsStamped, KeepsOrder, admits_at, arrivals_at, is_admit}
-use Rattle.trace_check.specs.declared.lateness.Lateness.{Lateness}
-use Rattle.trace_check.specs.declared.lateness.Lateness.TheVariants as late
+use Rattle.trace_check.specs.declared.late.Lateness.{Lateness}
+use Rattle.trace_check.specs.declared.late.Lateness.TheVariants as late
 
 -- ---- stamps, places and order
 

@@ -1,13 +1,13 @@
 -- The lines of why events are not in time.
 use Rattle.std.specs.Prelude.{ℕ, ◌-◌, List, ◌++◌, codes, cond, decimal, ltb}
-use Rattle.sloth_base.specs.declared.declared_names.DeclaredNames.{DeclaredNames}
+use Rattle.sloth_base.specs.declared.config.DeclaredNames.{DeclaredNames}
 use Rattle.sloth_base.specs.declared.service.Event.{Event}
 use Rattle.sloth_base.specs.declared.service.Event.TheVariants as event_is
 use Rattle.sloth_base.specs.declared.service.Stamped.{Stamped}
 use Rattle.sloth_base.specs.Owners.{first_counter_line}
 use Rattle.trace_text.specs.EventLines.{counted_line}
-use Rattle.trace_check.specs.declared.lateness.Lateness.{Lateness}
-use Rattle.trace_check.specs.declared.lateness.Lateness.TheVariants as late
+use Rattle.trace_check.specs.declared.late.Lateness.{Lateness}
+use Rattle.trace_check.specs.declared.late.Lateness.TheVariants as late
 
 -- the event that admits an arrival of a line of the controller
 abbrev pub admission : ℕ → Event

@@ -1,12 +1,12 @@
 -- The lines behind a verdict.
 use Rattle.std.specs.Prelude.{ℕ, zero, suc, false, List, [], ◌++◌, codes, decimal, get_or, Option, Some, None}
 use Rattle.std.specs.List.{flat_map}
-use Rattle.sloth_base.specs.declared.declared_names.DeclaredNames.{DeclaredNames}
+use Rattle.sloth_base.specs.declared.config.DeclaredNames.{DeclaredNames}
 use Rattle.osek_scheduler.specs.State.{System, task}
 use Rattle.trace_text.specs.EventWords.{event_text}
 use Rattle.run_samples.specs.SystemText.{state_line}
-use Rattle.trace_check.specs.declared.verdict.Verdict.{Verdict}
-use Rattle.trace_check.specs.declared.verdict.Verdict.TheVariants as verdict
+use Rattle.trace_check.specs.declared.rows.Verdict.{Verdict}
+use Rattle.trace_check.specs.declared.rows.Verdict.TheVariants as verdict
 use Rattle.trace_check.specs.declared.rows.NextEvent.{NextEvent}
 
 -- the line of a verdict

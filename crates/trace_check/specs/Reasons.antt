@@ -1,6 +1,6 @@
 -- What stands behind a verdict.
 use Rattle.std.specs.Prelude.{ℕ, ◌≡◌, ◌≢◌, List, [], ◌++◌, length}
-use Rattle.sloth_base.specs.declared.declared_names.DeclaredNames.{DeclaredNames}
+use Rattle.sloth_base.specs.declared.config.DeclaredNames.{DeclaredNames}
 use Rattle.sloth_base.specs.declared.config.Config.{Config}
 use Rattle.sloth_base.specs.declared.app.App.{App}
 use Rattle.sloth_base.specs.declared.service.Arrival.{Arrival}
@@ -11,17 +11,17 @@ use Rattle.osek_scheduler.specs.Runs.{AreStepsTo}
 use Rattle.trace_check.specs.TraceText.{IsEventText}
 use Rattle.run_inputs.specs.Inputs.{IsRefusal}
 use Rattle.trace_check.specs.TraceAnswers.{IsJudged}
-use Rattle.trace_check.specs.declared.verdict.Verdict.{Verdict}
-use Rattle.trace_check.specs.declared.verdict.Verdict.TheVariants as verdict
+use Rattle.trace_check.specs.declared.rows.Verdict.{Verdict}
+use Rattle.trace_check.specs.declared.rows.Verdict.TheVariants as verdict
 use Rattle.trace_check.specs.Front.{AreEventsBefore}
 use Rattle.trace_check.specs.NextEvents.{AreNextEvents}
 use Rattle.trace_check.specs.Lateness.{IsLateness}
 use Rattle.trace_check.specs.LatenessLines.{lateness_lines}
-use Rattle.trace_check.specs.declared.lateness.Lateness.{Lateness}
+use Rattle.trace_check.specs.declared.late.Lateness.{Lateness}
 use Rattle.trace_check.specs.ReasonLines.{row_lines, state_lines, verdict_line}
 use Rattle.trace_check.specs.declared.rows.NextEvent.{NextEvent}
-use Rattle.trace_check.specs.declared.reason.TraceReason.{TraceReason}
-use Rattle.trace_check.specs.declared.reason.TraceReason.TheVariants as reason
+use Rattle.trace_check.specs.declared.lines.TraceReason.{TraceReason}
+use Rattle.trace_check.specs.declared.lines.TraceReason.TheVariants as reason
 
 -- behind line k, with which the events are no run any more: the states of the tasks in front of it, and the events that may stand there
 pub record IsStepReason (config : Config) (app : App) (trace : List ℕ) (k : ℕ) (lines : List ℕ) : Type 0 where

@@ -6,11 +6,11 @@ use Rattle.sloth_base.specs.declared.service.Arrival.{Arrival}
 use Rattle.code_rules.specs.WellFormed.{WellFormed}
 use Rattle.sloth_source.specs.Texts.{AreAccepted}
 use Rattle.trace_check.specs.Answer.{IsVerdict}
-use Rattle.trace_check.specs.declared.verdict.Verdict.{Verdict}
+use Rattle.trace_check.specs.declared.rows.Verdict.{Verdict}
 use Rattle.run_inputs.specs.Inputs.{AreArrivalsOf, IsRefusal}
 use Rattle.sloth_base.specs.DeclaredNames.{task_names, counter_names}
-use Rattle.trace_check.specs.declared.answer.TraceAnswer.{TraceAnswer}
-use Rattle.trace_check.specs.declared.answer.TraceAnswer.TheVariants as answer
+use Rattle.trace_check.specs.declared.lines.TraceAnswer.{TraceAnswer}
+use Rattle.trace_check.specs.declared.lines.TraceAnswer.TheVariants as answer
 
 -- the inputs are accepted, and this is the verdict on the text
 pub record IsJudged (oil src arr trace : List ℕ) (n : ℕ) (verdict : Verdict) : Type 0 where

@@ -1,12 +1,12 @@
 -- What a text in the counted form shows, and its first line that shows nothing.
 use Rattle.std.specs.Prelude.{ℕ, ◌+◌, ◌≡◌, ◌≢◌, List, [], ◌∷◌, ◌++◌, length, All}
 use Rattle.sloth_base.specs.ImageRange.{AreNames, AreNamesApart}
-use Rattle.sloth_base.specs.declared.declared_names.DeclaredNames.{DeclaredNames}
+use Rattle.sloth_base.specs.declared.config.DeclaredNames.{DeclaredNames}
 use Rattle.sloth_base.specs.declared.service.Stamped.{Stamped}
 use Rattle.text_pieces.specs.Bytes.{behind}
 use Rattle.trace_text.specs.EventLines.{IsLineOf, counted_line}
 use Rattle.trace_text.specs.Texts.{lines_with}
-use Rattle.trace_text.specs.declared.summary.Form.TheVariants as form
+use Rattle.trace_text.specs.declared.events.Form.TheVariants as form
 
 -- names by which the lines of events are read: words, those of counters apart from those of tasks
 pub record AreReadable (names : DeclaredNames) : Type 0 where

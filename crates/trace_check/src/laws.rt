@@ -6,8 +6,8 @@ ghost use Rattle.sloth_base.specs.declared.service.Arrival.{Arrival};
 ghost use Rattle.code_rules.specs.WellFormed.{WellFormed};
 ghost use Rattle.trace_check.specs.Answer.{IsVerdict};
 ghost use Rattle.trace_check.specs.TraceAnswers.{IsTraceAnswer};
-ghost use Rattle.trace_check.specs.declared.answer.TraceAnswer.{TraceAnswer};
-ghost use Rattle.trace_check.specs.declared.verdict.Verdict.{Verdict};
+ghost use Rattle.trace_check.specs.declared.lines.TraceAnswer.{TraceAnswer};
+ghost use Rattle.trace_check.specs.declared.rows.Verdict.{Verdict};
 
 /// A text has one verdict.
 pub fn one_verdict()

@@ -7,22 +7,15 @@
 //! the events that may stand there (`specs/NextEvents`), or the first arrival that lacks its admit (`specs/Lateness`).
 #![tactic(auto)]
 
-pub mod answer;
 pub mod late;
-pub mod lateness;
 pub mod laws;
-mod lines;
+pub mod lines;
 mod machine_events;
-pub mod numbers;
 pub mod pass;
-mod reason;
-mod rows;
+pub mod rows;
 pub mod timing;
-pub mod verdict;
 pub mod walk;
 
-pub use answer::{TraceAnswer, judge_trace};
-pub use reason::{TraceReason, explain_trace};
-pub use rows::{NextEvent, next_events};
+pub use lines::{TraceAnswer, TraceReason, explain_trace, judge_trace};
+pub use rows::{NextEvent, Verdict, check, next_events};
 pub use timing::Timing;
-pub use verdict::{Verdict, check};

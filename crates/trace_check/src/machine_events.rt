@@ -6,13 +6,12 @@ ghost use Rattle.osek_machine.specs.Steps.{IsSound};
 ghost use Rattle.trace_check.specs.MachineEvents.{item_event, planned_event, service_event, shown_result};
 
 use osek_machine::{
-    Osek, Store, answer_plan, back_plan, call_in, call_plan, entry_plan, events, is_idle,
-    is_next_tick, leave_plan, no_ticks, own_operation, run_plan, running_plan,
+    Osek, Store, answer_plan, back_plan, call_in, call_plan, entry_plan, is_idle, is_next_tick,
+    leave_plan, no_ticks, own_operation, run_plan, running_plan,
 };
 use osek_scheduler::Plan;
 use sloth_base::{App, Config, Event, Service};
 
-// Whether an event has a next state.
 fn is_next(config: &Config, app: &App, store: &Store, event: &Event) -> bool
     requires sound { IsSound config.now app.now store.now }
     requires read { IsRead config.now app.now store.now }
@@ -60,7 +59,6 @@ fn shown_result(plan: Option<Plan>) -> Option<u32>
     }
 }
 
-// The run of the next item of a task.
 fn own_run(_config: &Config, app: &App, store: &Store, task: u32) -> Option<Event>
     requires read { IsRead _config.now app.now store.now }
     requires declared { task < length store.now.tasks }
@@ -79,7 +77,6 @@ fn own_run(_config: &Config, app: &App, store: &Store, task: u32) -> Option<Even
     })
 }
 
-// A service that goes on with a status, or with which its task leaves, by its plan, if there is one.
 fn planned_event(task: u32, service: Service, plan: Option<Plan>) -> Option<Event>
     ensures { result ≡ planned_event task service plan }
 {
@@ -96,7 +93,6 @@ fn planned_event(task: u32, service: Service, plan: Option<Plan>) -> Option<Even
     }
 }
 
-// The service that the next item of a task is.
 fn own_service(config: &Config, app: &App, store: &Store, task: u32) -> Option<Event>
     requires read { IsRead config.now app.now store.now }
     requires declared { task < length store.now.tasks }

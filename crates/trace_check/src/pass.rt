@@ -31,7 +31,6 @@ impl<'a> Model for Pass<'a> {
         record { ends = pass.ends; begins = pass.begins; latest = pass.latest; base = pass.base.now; rest = pass.rest.now } };
 }
 
-// What stands behind the first arrival of a line at a moment.
 fn behind_first<'a>(arrivals: &'a [Arrival], moment: u32, line: u64) -> Option<&'a [Arrival]>
     ensures { option_copied result ≡ behind_first moment line arrivals.now }
 {
@@ -44,7 +43,6 @@ fn behind_first<'a>(arrivals: &'a [Arrival], moment: u32, line: u64) -> Option<&
     None
 }
 
-// The arrivals from the first of a moment or later on.
 fn from_moment<'a>(arrivals: &'a [Arrival], moment: u32) -> &'a [Arrival]
     ensures { result.now ≡ from_moment moment arrivals.now }
 {
@@ -78,7 +76,6 @@ fn is_single(event: &Event) -> bool
     )
 }
 
-// Whether an event may have its stamp in a run of n instructions.
 fn is_stamped(n: u32, event: &Stamped) -> bool
     ensures { result ≡ is_stamped n event.now }
 {

@@ -1,21 +1,30 @@
 //! The rows of the events that may come next behind a walk, and before which count each must begin.
-ghost use Rattle.std.specs.Prelude.{◌≡◌, ◌<◌, ◌≤◌, ◌++◌, IfOk, List, OnOk, Some, length, ◌==◌, cond};
+//! The verdict on a text.
+ghost use Rattle.std.specs.Prelude.{◌≡◌, ◌<◌, ◌≤◌, ◌++◌, IfOk, List, OnOk, Some, length, ◌==◌, cond, ◌↔◌, All};
 ghost use Rattle.sloth_base.specs.declared.app.App.{App as AnyApp};
 ghost use Rattle.sloth_base.specs.declared.config.Config.{Config as AnyConfig};
 ghost use Rattle.sloth_base.specs.declared.service.Stamped.{Stamped as AnyEvent};
 ghost use Rattle.sloth_base.specs.Limits.{counter_limit, task_limit};
 ghost use Rattle.trace_check.specs.Walk.{IsWalked};
 ghost use Rattle.trace_check.specs.NextEvents.{AreNextEvents};
-ghost use Rattle.trace_check.specs.Rows.{all_rows, event_of, next_event, rows_below, rows_of, task_rows, event_limit};
-ghost use Rattle.trace_check.specs.Rows.{least_moment, leaves_count, lesser_limit, task_limit as service_limit};
+ghost use Rattle.trace_check.specs.Rows.{all_rows, event_of, rows_below, rows_of, task_rows, event_limit, least_moment, leaves_count, lesser_limit, task_limit as service_limit};
 ghost use Rattle.std.specs.Int.{bit_at};
 ghost use Rattle.sloth_base.specs.MemoryMap.{line_count};
+ghost use Rattle.sloth_base.specs.Arrivals.{AreArrivals, AreRisingMoments};
+ghost use Rattle.sloth_base.specs.Owners.{owners_in};
+ghost use Rattle.code_rules.specs.WellFormed.{WellFormed};
+ghost use Rattle.trace_check.specs.TraceText.{AreReadable};
+ghost use Rattle.trace_check.specs.Verdicts.{Checked};
+ghost use Rattle.trace_check.specs.Answer.{IsVerdict};
+ghost use Rattle.trace_check.specs.Begun.{IsBegun};
 
+use crate::Timing;
 use crate::machine_events::{has_next, item_event, service_event};
 use crate::walk::Walk;
-use sloth_base::{Event, LINE_COUNT, Result, TaskId};
+use sloth_base::config::declared_names;
+use sloth_base::{App, Arrival, Config, DeclaredNames, Event, LINE_COUNT, Result, TaskId};
 use std::alloc::Global;
-use text_pieces::push;
+use text_pieces::{behind, push};
 
 /// An event that may come next, if it begins before the limit, where there is one.
 #[derive(Clone, Copy)]
@@ -24,31 +33,19 @@ pub struct NextEvent {
     pub limit: Option<u32>,
 }
 
-// The row of an event, if it may come next.
-fn next_event(walk: &Walk, event: Event) -> Option<NextEvent>
-    ensures { result ≡ next_event walk.now event }
-{
-    let limit = event_limit(walk, &event);
-    if !has_next(walk.osek(), &event) || !leaves_count(limit) {
-        return None;
-    }
-    Some(NextEvent { event, limit })
-}
-
-// The row of an event, if there is one that may come next.
 fn push_event(rows: &mut Vec<NextEvent>, walk: &Walk, event: Option<Event>) -> Result<()>
     ensures { OnOk result (rows.new.items ≡ rows.old.items ++ rows_of walk.now event) }
 {
     let Some(event) = event else {
         return Ok(());
     };
-    match next_event(walk, event) {
-        Some(row) => push(rows, row),
-        None => Ok(()),
+    let limit = event_limit(walk, &event);
+    if has_next(walk.osek(), &event) && leaves_count(limit) {
+        return push(rows, NextEvent { event, limit });
     }
+    Ok(())
 }
 
-// The rows of a task, admissions aside.
 fn push_task(rows: &mut Vec<NextEvent>, walk: &Walk, task: u32) -> Result<()>
     requires { task < length walk.now.machine.config.tasks }
     ensures { OnOk result (rows.new.items ≡ rows.old.items ++ task_rows walk.now task) }
@@ -87,7 +84,6 @@ fn event(kind: Kind, number: u32) -> Event
     }
 }
 
-// The events of a kind, of all tasks or counters.
 fn push_each(rows: &mut Vec<NextEvent>, walk: &Walk, kind: Kind, count: u32) -> Result<()>
     ensures { OnOk result (rows.new.items ≡ rows.old.items
         ++ rows_below count (λ k. rows_of walk.now (Some (event_of kind k)))) }
@@ -127,7 +123,6 @@ pub fn next_events(alloc: Global, walk: &Walk) -> Result<Vec<NextEvent>>
     Ok(rows)
 }
 
-// The limit with the moment of a line, if that is in the row: the lesser of both.
 #[tactic(auto, using(std::proofs::lemmas::Nat::Bits::shr_and_one))]
 fn row_limit(row: u32, line: u32, limit: Option<u32>, moment: u32) -> Option<u32>
     requires { line < line_count }
@@ -180,4 +175,73 @@ pub fn leaves_count(limit: Option<u32>) -> bool
         Some(limit) => limit != 0,
         None => true,
     }
+}
+
+/// What is said of a text of events.
+#[derive(Clone, Copy)]
+pub enum Verdict {
+    /// It is that of a run.
+    Yes,
+    /// The first line that is no event's, or that no LF ends.
+    Line(u32),
+    /// All lines are events', and this is the first with which they are no run.
+    Step(u32),
+    /// The events are a run, and not in time.
+    Time,
+}
+
+fn judge_lines(
+    alloc: Global,
+    names: &DeclaredNames,
+    walk: &mut Walk,
+    timing: &mut Timing,
+    text: &[u8],
+) -> Result<Verdict>
+    requires names { AreReadable names.now }
+    requires rising { AreRisingMoments 1 timing.old.arrivals }
+    requires lines { All (λ a. a.line < 4294967296) timing.old.arrivals }
+    requires short { length text.now < 4294967295 }
+    ensures { IfOk result (λ v. (config : AnyConfig) (app : AnyApp) → IsBegun config app names.now walk.old timing.old
+        → IsVerdict config app timing.old.arrivals text.now timing.old.n v) }
+{
+    let mut stray = None;
+    let mut line = 0;
+    let mut rest = text;
+    while !rest.is_empty() {
+        line += 1;
+        let Some(event) = crate::late::next_event(names, rest) else {
+            return Ok(Verdict::Line(line));
+        };
+        stray = walk.follow(stray, &event, line);
+        timing.take(&event)?;
+        rest = behind(rest, b'\n');
+    }
+    if let Some(line) = stray {
+        return Ok(Verdict::Step(line));
+    }
+    if timing.in_time(alloc)? {
+        return Ok(Verdict::Yes);
+    }
+    Ok(Verdict::Time)
+}
+
+/// Whether a text in the counted form is that of a run of n instructions with these arrivals, and if not, why not.
+pub fn check(
+    alloc: Global,
+    config: &Config,
+    app: &App,
+    arrivals: &[Arrival],
+    text: &[u8],
+    n: u32,
+) -> Result<Verdict>
+    requires well_formed { WellFormed config.now app.now }
+    requires arrivals { AreArrivals (owners_in config.now) arrivals.now }
+    requires short { length text.now < 4294967295 }
+    ensures verdict { IfOk result (λ v. IsVerdict config.now app.now arrivals.now text.now n v) }
+    ensures exact { IfOk result (λ v. (v ≡ Verdict.Yes) ↔ Checked config.now app.now arrivals.now text.now n) }
+{
+    let names = declared_names(alloc, config, app)?;
+    let mut walk = Walk::new(alloc, config, app)?;
+    let mut timing = Timing::new(alloc, config, n, arrivals);
+    judge_lines(alloc, &names, &mut walk, &mut timing, text)
 }

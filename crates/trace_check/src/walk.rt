@@ -44,7 +44,6 @@ impl<'t> Model for Walk<'t> {
     ghost view = { λ w. record { machine = w.osek; moments = w.moments } };
 }
 
-// Whether a line is not in the row, or its moment is behind a count.
 #[tactic(auto, using(std::proofs::lemmas::Nat::Bits::shr_and_one))]
 fn is_later(row: u32, line: u32, moment: u32, count: u32) -> bool
     requires { line < line_count }
@@ -53,7 +52,6 @@ fn is_later(row: u32, line: u32, moment: u32, count: u32) -> bool
     row >> line & 1 != 1 || count < moment
 }
 
-// Whether the moment of each line of the row is behind a count.
 fn all_later(row: u32, moments: &[u32; LINE_COUNT], count: u32) -> bool
     ensures { result ≡ all_later (λ u. bit_at row u == 1) moments.now count }
 {
@@ -110,7 +108,6 @@ impl<'t> Walk<'t> {
         (task as usize) < self.osek.task_count() && is_active(self.osek.state(TaskId(task)))
     }
 
-    // Whether a task of the configuration is Suspended.
     fn is_asleep(&self, task: u32) -> bool
         ensures { task < length self.now.machine.config.tasks
             → result ≡ if_suspended (task_of self.now.machine.system task).state true false }
@@ -118,7 +115,6 @@ impl<'t> Walk<'t> {
         (task as usize) < self.osek.task_count() && is_suspended(self.osek.state(TaskId(task)))
     }
 
-    // Whether the tasks that a task passes over, if it runs, were admitted behind a count.
     fn task_passes(&self, task: u32, count: u32) -> bool
         ensures { result ≡ task_passes self.now.machine.config self.now.machine.system self.now.moments task count }
     {
@@ -128,7 +124,6 @@ impl<'t> Walk<'t> {
         all_later(self.osek.above(TaskId(task)), &self.moments, count)
     }
 
-    // Whether the tasks that an event passes over were admitted behind a count.
     fn event_passes(&self, event: &Event, count: u32) -> bool
         ensures { result
             ≡ event_passes self.now.machine.config self.now.machine.system self.now.moments event.now count }
@@ -147,13 +142,7 @@ impl<'t> Walk<'t> {
             ≡ with_moment result self.now.moments }
     {
         match event.event {
-            Event::Admit(task) => {
-                if self.is_asleep(task) {
-                    Some((task, event.stamp.at))
-                } else {
-                    None
-                }
-            }
+            Event::Admit(task) if self.is_asleep(task) => Some((task, event.stamp.at)),
             Event::Enter(task) => Some((task, 0)),
             _ => None,
         }

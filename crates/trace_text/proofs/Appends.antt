@@ -6,8 +6,8 @@ use Rattle.sloth_base.specs.declared.service.Stamped.{Stamped}
 use Rattle.sloth_base.specs.declared.image.Image.{Image}
 use Rattle.trace_text.specs.Lines.{line_of}
 use Rattle.trace_text.specs.Texts.{ends_idle, is_idle, lines_of, merged_events, printed_events, text_after}
-use Rattle.trace_text.specs.declared.summary.Form.{Form}
-use Rattle.trace_text.specs.declared.summary.Form.TheVariants as form
+use Rattle.trace_text.specs.declared.events.Form.{Form}
+use Rattle.trace_text.specs.declared.events.Form.TheVariants as form
 
 pub lines_of-append : (image : Image) (form : Form) (events more : List Stamped)
     → lines_of image form (events ++ more) ≡ lines_of image form events ++ lines_of image form more

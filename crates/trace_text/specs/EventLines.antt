@@ -3,7 +3,7 @@ use Rattle.std.specs.Prelude.{◌≡◌, ℕ, List, length}
 use Rattle.sloth_base.specs.declared.service.Stamped.{Stamped}
 use Rattle.trace_text.specs.EventNumbers.{Has32Bits, HasEventNumbers}
 use Rattle.trace_text.specs.Lines.{line_with}
-use Rattle.trace_text.specs.declared.summary.Form.TheVariants as form
+use Rattle.trace_text.specs.declared.events.Form.TheVariants as form
 
 -- the counted line of an event without its LF, with the names of tasks, functions and counters
 abbrev pub counted_line : (tasks functions counters : List (List ℕ)) → Stamped → List ℕ

@@ -3,8 +3,8 @@ use Rattle.std.specs.Prelude.{ℕ, List, [], ◌++◌, decimal, codes}
 use Rattle.sloth_base.specs.declared.service.Stamped.{Stamped}
 use Rattle.sloth_base.specs.declared.image.Image.{Image}
 use Rattle.trace_text.specs.EventWords.{event_text}
-use Rattle.trace_text.specs.declared.summary.Form.{Form}
-use Rattle.trace_text.specs.declared.summary.Form.TheVariants as form
+use Rattle.trace_text.specs.declared.events.Form.{Form}
+use Rattle.trace_text.specs.declared.events.Form.TheVariants as form
 
 -- the counts of an event's first and last instruction, in front of it
 abbrev pub counts_text : Form → Stamped → List ℕ

@@ -1,7 +1,7 @@
 -- The line of a run that stopped.
 use Rattle.std.specs.Prelude.{ℕ, List, ◌++◌, codes}
-use Rattle.rv32_instr.specs.declared.effect.Stop.{Stop}
-use Rattle.rv32_instr.specs.declared.effect.Stop.TheVariants as stop
+use Rattle.rv32_instr.specs.declared.encoding.Stop.{Stop}
+use Rattle.rv32_instr.specs.declared.encoding.Stop.TheVariants as stop
 use Rattle.trace_text.specs.MarkWords.{word_text}
 
 -- why the machine stopped

@@ -6,8 +6,8 @@ use Rattle.sloth_base.specs.declared.service.Event.TheVariants as event
 use Rattle.sloth_base.specs.declared.service.Stamped.{Stamped}
 use Rattle.sloth_base.specs.declared.image.Image.{Image}
 use Rattle.trace_text.specs.Lines.{line_with}
-use Rattle.trace_text.specs.declared.summary.Form.{Form}
-use Rattle.trace_text.specs.declared.summary.Form.TheVariants as form
+use Rattle.trace_text.specs.declared.events.Form.{Form}
+use Rattle.trace_text.specs.declared.events.Form.TheVariants as form
 
 -- an event is that of the idle loop
 abbrev pub is_idle : Event → Bool

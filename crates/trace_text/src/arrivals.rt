@@ -14,13 +14,15 @@ ghost use Rattle.sloth_base.specs.Limits.{count_limit};
 ghost use Rattle.sloth_base.specs.Search.{IsSearchResult};
 ghost use Rattle.text_pieces.specs.Digits.{capped_value};
 
-use sloth_base::least_fault::{fault_if, merge};
+use sloth_base::refusal::{fault_if, merge};
 use sloth_base::{
     ARRIVAL_LIMIT, Arrival, BuildError, COUNT_LIMIT, Code, FIRST_COUNTER_LINE, Line, Name, Part,
     Refusal, TASK_LIMIT,
 };
 use std::alloc::Global;
 use text_pieces::{before, behind, is_name, lines, push, same, value};
+
+type Arrivals = Result<Vec<Arrival>, BuildError>;
 
 fn read_line(
     read: &mut Vec<Arrival>,
@@ -45,13 +47,7 @@ fn read_line(
     Ok(())
 }
 
-// Reads lines, up to the first that has a fault.
-fn read_lines(
-    alloc: Global,
-    lines: &[&[u8]],
-    tasks: &[Name],
-    counters: &[Name],
-) -> Result<Vec<Arrival>, BuildError>
+fn read_lines(alloc: Global, lines: &[&[u8]], tasks: &[Name], counters: &[Name]) -> Arrivals
     requires { length lines.now < 2 ^ 32 }
     ensures arrivals { IfOk result (λ read. read.items ≡ arrivals_of tasks.now counters.now (map referent lines.now)) }
     ensures in_range { IfOk result (λ read. AreArrivals (owners_read tasks.now counters.now) read.items) }
@@ -69,12 +65,7 @@ fn read_lines(
 /// The arrivals of a text of at most 4,294,967,294 bytes, with the names of the tasks and of the counters; or its least
 /// fault: T1 for a line of another shape, T2 for a name that is no task's and no counter's, T3 for a moment less than
 /// the one before, T4 for the 100,001st arrival or a moment outside 1 to 1,000,000.
-pub fn read_arrivals(
-    alloc: Global,
-    text: &[u8],
-    tasks: &[Name],
-    counters: &[Name],
-) -> Result<Vec<Arrival>, BuildError>
+pub fn read_arrivals(alloc: Global, text: &[u8], tasks: &[Name], counters: &[Name]) -> Arrivals
     requires { length text.now < 4294967295 }
     ensures arrivals { IfOk result (λ read. read.items ≡ arrivals_in tasks.now counters.now text.now) }
     ensures in_range { IfOk result (λ read. AreArrivals (owners_read tasks.now counters.now) read.items) }
@@ -179,15 +170,12 @@ pub fn arrival(tasks: &[Name], counters: &[Name], line: &[u8]) -> Arrival
     requires { moment_of line.now ≤ count_limit }
     ensures { result ≡ arrival_of tasks.now counters.now line.now }
 {
-    let at = moment(line) as u32;
-    let number = named_line(tasks, counters, line).unwrap_or(0);
     Arrival {
-        at,
-        line: Line(number),
+        at: moment(line) as u32,
+        line: Line(named_line(tasks, counters, line).unwrap_or(0)),
     }
 }
 
-// The moment of the last arrival, or 0.
 fn last_moment(arrivals: &[Arrival]) -> u32
     ensures { result ≡ last_moment 0 arrivals.now }
 {
@@ -197,21 +185,18 @@ fn last_moment(arrivals: &[Arrival]) -> u32
     arrivals[arrivals.len() - 1].at
 }
 
-// A line of another shape.
 fn is_t1(line: &[u8]) -> bool
     ensures { result ≡ is_t1 line.now }
 {
     !is_comment(line) && !is_arrival(line)
 }
 
-// A name that is no task's and no counter's.
 fn is_t2(tasks: &[Name], counters: &[Name], line: &[u8]) -> bool
     ensures { result ≡ is_t2 tasks.now counters.now line.now }
 {
     is_arrival(line) && named_line(tasks, counters, line).is_none()
 }
 
-// A moment less than that of the arrival before, which is at most `COUNT_LIMIT`.
 fn is_t3(before: &[Arrival], line: &[u8]) -> bool
     requires { last_moment 0 before.now ≤ count_limit }
     ensures { result ≡ is_t3 before.now line.now }
@@ -219,7 +204,6 @@ fn is_t3(before: &[Arrival], line: &[u8]) -> bool
     is_arrival(line) && moment(line) < u64::from(last_moment(before))
 }
 
-// One arrival too many, or a moment out of range.
 fn is_t4(before: &[Arrival], line: &[u8]) -> bool
     ensures { result ≡ is_t4 before.now line.now }
 {

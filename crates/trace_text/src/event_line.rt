@@ -1,25 +1,29 @@
-//! Reading event lines. Words of events read.
-ghost use Rattle.std.specs.Prelude.{◌≡◌, ℕ, ◌↔◌, Some, IfSome, length};
-ghost use Rattle.sloth_base.specs.ImageRange.{AreNames, AreNamesApart};
+//! Reading event lines. Words of events read. Lines of listings. The words of marks.
+ghost use Rattle.std.specs.Prelude.{◌≡◌, ℕ, ◌↔◌, Some, IfSome, length, ◌+◌, ◌≤◌, ◌/◌, ◌++◌, decimal, codes};
+ghost use Rattle.sloth_base.specs.ImageRange.{AreNames, AreNamesApart, InFormat, AreAscending};
 ghost use Rattle.sloth_base.specs.declared.service.Stamped.{Stamped as AnyEvent};
 ghost use Rattle.trace_text.specs.EventNumbers.{HasEventNumbers, IsNameNumber, IsNumberOrNone, Has32Bits};
-ghost use Rattle.trace_text.specs.EventLines.{IsLineOf, counted_line};
-ghost use Rattle.trace_text.specs.EventsRead.{event_in, more_in, number, of_task, place, place_or_none};
-ghost use Rattle.trace_text.specs.EventsRead.{stamped_in};
-ghost use Rattle.trace_text.specs.EventWords.{bare_in, single_in};
+ghost use Rattle.trace_text.specs.EventLines.{IsLineOf};
+ghost use Rattle.trace_text.specs.EventsRead.{event_in, more_in, number, of_task, place, place_or_none, stamped_in};
+ghost use Rattle.trace_text.specs.EventWords.{bare_in, single_in, name_of};
+ghost use Rattle.trace_text.specs.Listing.{line_at, mark_on, sizes_line, word_line};
+ghost use Rattle.sloth_base.specs.ServiceCodes.{service_of};
+ghost use Rattle.sloth_base.specs.Limits.{name_limit};
+ghost use Rattle.trace_text.specs.MarkWords.{called_text, mark_text};
 
 use crate::arrivals::position;
+use crate::events::{push_counted, push_name};
 use crate::{LineText, push_counts, push_event};
-use sloth_base::{Event, Name, Stamp, Stamped, service_named};
+use sloth_base::{
+    Event, Image, MEMORY_BASE, Mark, MarkKind, Name, Service, Stamp, Stamped, service_named,
+};
 use text_pieces::{before, behind, same, value};
 
-/// The number of no task and of no counter.
+// The number of no task and of no counter.
 const NONE: u32 = 4_294_967_295;
 
-/// The greatest number of 32 bits.
 const GREATEST: u64 = 4_294_967_295;
 
-// The number that decimal digits write.
 #[tactic(auto, unfolding(crate::specs::EventsRead::number))]
 fn number(word: &[u8]) -> Option<u32>
     ensures number { result ≡ number word.now }
@@ -56,7 +60,6 @@ fn place_or_none(names: &[Name], word: &[u8]) -> Option<u32>
     place(names, word)
 }
 
-// An event of a task and of more, by its first word.
 #[tactic(auto, unfolding(crate::specs::EventsRead::more_in, crate::specs::EventsRead::run_in, crate::specs::EventsRead::call_in, crate::specs::EventsRead::left_in))]
 fn further_event(kind: &[u8], task: u32, functions: &[Name], text: &[u8]) -> Option<Event>
     ensures event { result ≡ more_in kind.now task functions.now text.now }
@@ -91,7 +94,6 @@ fn further_event(kind: &[u8], task: u32, functions: &[Name], text: &[u8]) -> Opt
     None
 }
 
-// An event of a task, by its first word and the others.
 #[tactic(auto, unfolding(crate::specs::EventsRead::of_task, crate::specs::EventWords::single_in))]
 fn task_event(tasks: &[Name], functions: &[Name], kind: &[u8], text: &[u8]) -> Option<Event>
     ensures event { result ≡ of_task tasks.now functions.now kind.now text.now }
@@ -110,7 +112,6 @@ fn task_event(tasks: &[Name], functions: &[Name], kind: &[u8], text: &[u8]) -> O
     further_event(kind, task, functions, behind(text, b' '))
 }
 
-// The one event that these words may show.
 #[tactic(auto, unfolding(crate::specs::EventWords::bare_in, crate::specs::EventsRead::event_in, crate::specs::EventsRead::named_in, crate::specs::EventsRead::admit_in, crate::specs::EventsRead::tick_in))]
 fn any_event(tasks: &[Name], functions: &[Name], counters: &[Name], text: &[u8]) -> Option<Event>
     ensures event { result ≡ event_in tasks.now functions.now counters.now text.now }
@@ -132,17 +133,14 @@ fn any_event(tasks: &[Name], functions: &[Name], counters: &[Name], text: &[u8])
         if let Some(task) = place_or_none(tasks, others) {
             return Some(Event::Admit(task));
         }
-        let counter = place(counters, others)?;
-        return Some(Event::Due(counter));
+        return Some(Event::Due(place(counters, others)?));
     }
     if same(kind, b"tick") {
-        let counter = place_or_none(counters, others)?;
-        return Some(Event::Tick(counter));
+        return Some(Event::Tick(place_or_none(counters, others)?));
     }
     task_event(tasks, functions, kind, others)
 }
 
-// The one event that a counted line may show.
 #[tactic(auto, unfolding(crate::specs::EventsRead::stamped_in))]
 fn stamped(tasks: &[Name], functions: &[Name], counters: &[Name], text: &[u8]) -> Option<Stamped>
     ensures event { result ≡ stamped_in tasks.now functions.now counters.now text.now }
@@ -161,18 +159,6 @@ fn stamped(tasks: &[Name], functions: &[Name], counters: &[Name], text: &[u8]) -
     })
 }
 
-fn counted_line(tasks: &[Name], functions: &[Name], counters: &[Name], event: &Stamped) -> LineText
-    requires tasks { AreNames tasks.now }
-    requires functions { AreNames functions.now }
-    requires counters { AreNames counters.now }
-    ensures { result ≡ counted_line tasks.now functions.now counters.now event.now }
-{
-    let mut line = LineText::new();
-    push_counts(&mut line, event);
-    push_event(&mut line, &event.event, tasks, functions, counters);
-    line
-}
-
 /// The event whose counted line this text is, without its LF: exactly where there is one. `-` is read as the task or
 /// the counter of number 4,294,967,295. Takes no memory.
 pub fn read_line(text: &[u8], tasks: &[Name], funcs: &[Name], counters: &[Name]) -> Option<Stamped>
@@ -185,9 +171,111 @@ pub fn read_line(text: &[u8], tasks: &[Name], funcs: &[Name], counters: &[Name])
     let Some(event) = stamped(tasks, funcs, counters, text) else {
         return None;
     };
-    let line = counted_line(tasks, funcs, counters, &event);
+    let mut line = LineText::new();
+    push_counts(&mut line, &event);
+    push_event(&mut line, &event.event, tasks, funcs, counters);
     if !same(line.bytes(), text) {
         return None;
     }
     Some(event)
+}
+
+/// Line k of an image's listing, from 0, without its LF: how many tasks, functions, bytes and marks there are; then
+/// each word of memory with its address, and what its mark says. k is at most the number of words.
+pub fn listing_line(image: &Image, k: u32) -> LineText
+    requires format { InFormat image.now }
+    requires in_range { k ≤ length image.now.memory / 4 }
+    ensures line { result ≡ line_at image.now k }
+    ensures short { length result ≤ 128 }
+{
+    let mut line = LineText::new();
+    if k == 0 {
+        push_sizes(&mut line, image);
+    } else {
+        push_word(&mut line, image, (k - 1) * 4);
+    }
+    line
+}
+
+fn push_sizes(line: &mut LineText, image: &Image)
+    requires format { InFormat image.now }
+    requires room { length line.old ≤ 128 }
+    ensures sizes { line.new ≡ line.old ++ sizes_line image.now }
+    ensures short { length line.new ≤ length line.old + 71 }
+{
+    push_counted(line, b"tasks ", image.tasks.items().len() as u32);
+    push_counted(line, b" functions ", image.funcs.items().len() as u32);
+    push_counted(line, b" bytes ", image.memory.items().len() as u32);
+    push_counted(line, b" marks ", image.marks.items().len() as u32);
+}
+
+fn push_word(line: &mut LineText, image: &Image, offset: u32)
+    requires format { InFormat image.now }
+    requires in_range { offset + 4 ≤ length image.now.memory }
+    requires room { length line.old ≤ 128 }
+    ensures word { line.new ≡ line.old ++ word_line image.now offset }
+    ensures short { length line.new ≤ length line.old + 101 }
+{
+    let address = MEMORY_BASE + offset;
+    line.push_word(address);
+    line.push(b" ");
+    let (memory, at) = (image.memory.items(), offset as usize);
+    line.push_hex([memory[at + 3], memory[at + 2], memory[at + 1], memory[at]]);
+    if let Some(mark) = word_mark(image.marks.items(), address) {
+        push_mark(line, image.funcs.items(), &mark);
+    }
+}
+
+fn word_mark(marks: &[Mark], address: u32) -> Option<Mark>
+    requires { AreAscending marks.now }
+    ensures { result ≡ mark_on marks.now address }
+{
+    match marks.binary_search_by_key(&address, |mark| mark.address) {
+        Ok(place) => Some(marks[place]),
+        Err(_) => None,
+    }
+}
+
+/// Appends what a mark says.
+pub fn push_mark(line: &mut LineText, functions: &[Name], mark: &Mark)
+    requires names { (k : ℕ) → length (name_of functions.now k) ≤ name_limit }
+    requires room { length line.old ≤ 150 }
+    ensures mark { line.new ≡ line.old ++ mark_text functions.now mark.now }
+    ensures short { length line.new ≤ length line.old + 84 }
+{
+    match mark.kind {
+        MarkKind::Item => push_place(line, b" item ", functions, mark),
+        MarkKind::Jump => push_place(line, b" service ", functions, mark),
+        MarkKind::Opening => {
+            line.push(b" opening ");
+            push_service(line, mark.a);
+        }
+        MarkKind::Idle => line.push(b" idle"),
+        MarkKind::Back => line.push(b" back"),
+    }
+}
+
+fn push_place(line: &mut LineText, word: &[u8], functions: &[Name], mark: &Mark)
+    requires names { (k : ℕ) → length (name_of functions.now k) ≤ name_limit }
+    requires word { length word.now ≤ 9 }
+    requires room { length line.old ≤ 150 }
+    ensures place { line.new ≡ line.old
+        ++ (word.now ++ name_of functions.now mark.now.b ++ codes " " ++ decimal mark.now.c) }
+    ensures short { length line.new ≤ length line.old + 84 }
+{
+    line.push(word);
+    push_name(line, functions, u32::from(mark.b));
+    line.push(b" ");
+    line.push_number(mark.c);
+}
+
+fn push_service(line: &mut LineText, code: u8)
+    requires room { length line.old ≤ 200 }
+    ensures service { line.new ≡ line.old ++ called_text (service_of code) }
+    ensures short { length line.new ≤ length line.old + 15 }
+{
+    match Service::from_code(code) {
+        Some(service) => line.push(service.name()),
+        None => line.push(b"-"),
+    }
 }

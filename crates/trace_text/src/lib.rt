@@ -8,11 +8,10 @@ pub mod arrivals;
 pub mod event_line;
 pub mod events;
 pub mod laws;
-pub mod listing;
-pub mod summary;
 
 pub use arrivals::{are_digits, is_comment, owner_line, read_arrivals, task_line};
-pub use event_line::read_line;
-pub use events::{LineText, instructions, kind_of, number_below, push_event};
-pub use listing::{listing_line, push_mark};
-pub use summary::{Form, KINDS, kind_line, print, push_counts, stopped_line};
+pub use event_line::{listing_line, push_mark, read_line};
+pub use events::{
+    Form, KINDS, LineText, instructions, kind_line, kind_of, number_below, print, push_counts,
+    push_event, stopped_line,
+};

@@ -5,13 +5,13 @@ ghost use Rattle.std.specs.Prelude.{ℕ, ◌^◌, slice_index, ◌≡◌, ◌++�
 ghost use Rattle.sloth_base.specs.MemoryMap.{boot_base, vectors_base, line_count};
 ghost use Rattle.sloth_base.specs.ConfigRange.{InRange};
 ghost use Rattle.code_lengths.specs.CodeLengths.{boot_length};
-ghost use Rattle.vector_gen.specs.Boot.{register_code, line_start_code, lines_code, counters_code, finishing_code};
-ghost use Rattle.vector_gen.specs.Boot.{IsBootCode};
+ghost use Rattle.vector_gen.specs.Boot.{line_start_code, lines_code, counters_code, finishing_code, IsBootCode};
 ghost use Rattle.sloth_base.specs.Owners.{first_counter_line};
 ghost use Rattle.sloth_base.specs.Limits.{task_limit, counter_limit, level_count};
 ghost use Rattle.vector_gen.specs.Vectors.{AreInReach, AreJumps, StepToHandlers};
 ghost use Rattle.vector_gen.specs.Idle.{idle_mark, IsIdleCode};
 
+use crate::Added;
 use block_parts::{counter_level, jump, raise_autostarted, stay};
 use masked_code::put;
 use rv32_instr::{
@@ -24,7 +24,7 @@ use sloth_base::{
 use sloth_region::{
     CONTEXT_BYTES, CONTROLLER_HIGH, IDLE_CONTEXT, Map, WORDS_HIGH, enabled_byte, level_byte,
 };
-use std::alloc::{AllocError, Global};
+use std::alloc::Global;
 
 /// The block of boot. It stores no zero to a pending byte and loads none.
 pub fn boot(alloc: Global, config: &Config, levels: &Levels, map: &Map) -> Result<Block>
@@ -39,7 +39,7 @@ pub fn boot(alloc: Global, config: &Config, levels: &Levels, map: &Map) -> Resul
         block.code) }
 {
     let mut code = Vec::new(alloc);
-    begin(&mut code)?;
+    put!(&mut code; lui(X3, CONTROLLER_HIGH), addi(X4, ZERO, 1))?;
     start_all(&mut code, config.tasks.items(), levels.task)?;
     start_counters(&mut code, config.counters.items(), counter_level(levels))?;
     finish(&mut code, map.idle)?;
@@ -50,15 +50,8 @@ pub fn boot(alloc: Global, config: &Config, levels: &Levels, map: &Map) -> Resul
     })
 }
 
-/// x3 := the controller's address, x4 := 1.
-fn begin(code: &mut Vec<Instr>) -> Result<(), AllocError>
-    ensures { OnOk result (code.new.items ≡ code.old.items ++ register_code) }
-{
-    put!(code; lui(X3, CONTROLLER_HIGH), addi(X4, ZERO, 1))
-}
-
 /// A line gets its level and is enabled, and is raised where its task is autostarted.
-fn start(code: &mut Vec<Instr>, line: u8, level: u8, autostart: bool) -> Result<(), AllocError>
+fn start(code: &mut Vec<Instr>, line: u8, level: u8, autostart: bool) -> Added
     requires { line < line_count }
     ensures { OnOk result (code.new.items ≡ code.old.items ++ line_start_code line level autostart) }
 {
@@ -66,12 +59,7 @@ fn start(code: &mut Vec<Instr>, line: u8, level: u8, autostart: bool) -> Result<
     raise_autostarted(code, line, autostart)
 }
 
-/// All tasks' lines.
-fn start_all(
-    code: &mut Vec<Instr>,
-    tasks: &[TaskDecl],
-    levels: [u8; TASK_LIMIT],
-) -> Result<(), AllocError>
+fn start_all(code: &mut Vec<Instr>, tasks: &[TaskDecl], levels: [u8; TASK_LIMIT]) -> Added
     requires { length tasks.now ≤ task_limit }
     ensures added { OnOk result (code.new.items ≡ code.old.items ++ lines_code 0 tasks.now levels) }
     ensures bytes { (line : ℕ) → slice_index levels line < 256 }
@@ -83,11 +71,7 @@ fn start_all(
 }
 
 /// The lines of all counters, at one level.
-fn start_counters(
-    code: &mut Vec<Instr>,
-    counters: &[CounterDecl],
-    level: u8,
-) -> Result<(), AllocError>
+fn start_counters(code: &mut Vec<Instr>, counters: &[CounterDecl], level: u8) -> Added
     requires { length counters.now ≤ counter_limit }
     ensures added { OnOk result (code.new.items
         ≡ code.old.items ++ counters_code (length counters.now) first_counter_line level) }
@@ -100,7 +84,7 @@ fn start_counters(
 }
 
 /// x4 := the base of memory, x2 := the end of the idle loop's context, MPIE := 1, and on to the idle loop.
-fn finish(code: &mut Vec<Instr>, idle: u32) -> Result<(), AllocError>
+fn finish(code: &mut Vec<Instr>, idle: u32) -> Added
     ensures added { OnOk result (code.new.items ≡ code.old.items ++ finishing_code idle) }
     ensures fits { idle < 2 ^ 32 }
 {

@@ -14,3 +14,11 @@ mod prologue_block;
 
 pub use boot_code::{boot, idle, vectors};
 pub use prologue_block::prologue;
+use rv32_instr::Instr;
+use std::alloc::AllocError;
+
+/// The code of a block.
+type Code = Result<Vec<Instr>, AllocError>;
+
+/// What adding instructions to it answers.
+type Added = Result<(), AllocError>;

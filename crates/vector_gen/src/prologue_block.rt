@@ -9,6 +9,7 @@ ghost use Rattle.vector_gen.specs.Places.{IsStackTop, IsTaskPrologue, IsPrologue
 ghost use Rattle.vector_gen.specs.Pieces.{going_on_code, context_taking_code, context_saving_code, active_marking_code};
 ghost use Rattle.vector_gen.specs.Pieces.{beginning_code, fresh_start_code};
 
+use crate::{Added, Code};
 use block_parts::{ask_preempted, start_level, take_own};
 use code_lengths::body_of;
 use masked_code::{X5, clear, clear_words, past, put, restore, save};
@@ -20,7 +21,7 @@ use sloth_base::{App, Config, E_OK, Levels, List, Result, TaskId};
 use sloth_region::{
     BELOW_WORD, CONTEXT_BELOW, CONTEXT_CUR, CONTEXT_LEVEL, CONTEXT_PC, CUR, Map, active, resume,
 };
-use std::alloc::{AllocError, Global};
+use std::alloc::Global;
 
 /// The prologue of a task, at the address of its line's handler in the map: 73 instructions for a basic task, 108 for
 /// an extended one, and one for each word of the frame of the task's body.
@@ -76,7 +77,7 @@ fn prologue_code(
     frame: u32,
     words: u32,
     first: u32,
-) -> Result<Vec<Instr>, AllocError>
+) -> Code
     requires small { (task < task_limit) × (level < level_count) × (words ≤ frame_limit) }
     requires in_ram { memory_base ≤ frame }
     ensures size { IfOk result (λ code. length code.items ≡ prologue_length extended words) }
@@ -95,7 +96,7 @@ fn prologue_code(
 const GOES_ON: u32 = 33;
 
 /// Takes up the context that is kept for an extended task, at x1, and passes that where there is none.
-fn take_up(code: &mut Vec<Instr>, extended: bool, task: u32) -> Result<(), AllocError>
+fn take_up(code: &mut Vec<Instr>, extended: bool, task: u32) -> Added
     requires { task < task_limit }
     ensures { OnOk result (code.new.items ≡ code.old.items ++ context_taking_code extended task) }
 {
@@ -107,7 +108,7 @@ fn take_up(code: &mut Vec<Instr>, extended: bool, task: u32) -> Result<(), Alloc
 }
 
 /// The task goes on behind its wait, as its context at x1 says, with the status E_OK.
-fn end_wait(code: &mut Vec<Instr>, task: u32) -> Result<(), AllocError>
+fn end_wait(code: &mut Vec<Instr>, task: u32) -> Added
     requires { task < task_limit }
     ensures { OnOk result (code.new.items ≡ code.old.items ++ going_on_code task) }
 {
@@ -118,7 +119,7 @@ fn end_wait(code: &mut Vec<Instr>, task: u32) -> Result<(), AllocError>
 
 /// Saves the registers where a task was running, and then what the CSRs and the service words say, in the context
 /// directly below x2. The level is then this one.
-fn save_context(code: &mut Vec<Instr>, level: u8) -> Result<(), AllocError>
+fn save_context(code: &mut Vec<Instr>, level: u8) -> Added
     requires { level < level_count }
     ensures { OnOk result (code.new.items ≡ code.old.items ++ context_saving_code level) }
 {
@@ -129,7 +130,7 @@ fn save_context(code: &mut Vec<Instr>, level: u8) -> Result<(), AllocError>
 }
 
 /// The task becomes the running one and Active.
-fn mark_active(code: &mut Vec<Instr>, task: u32) -> Result<(), AllocError>
+fn mark_active(code: &mut Vec<Instr>, task: u32) -> Added
     requires { task < task_limit }
     ensures { OnOk result (code.new.items ≡ code.old.items ++ active_marking_code task) }
 {
@@ -137,7 +138,7 @@ fn mark_active(code: &mut Vec<Instr>, task: u32) -> Result<(), AllocError>
 }
 
 /// x2 := the address of the frame, mepc := that of the first item.
-fn begin(code: &mut Vec<Instr>, frame: u32, first: u32) -> Result<(), AllocError>
+fn begin(code: &mut Vec<Instr>, frame: u32, first: u32) -> Added
     ensures { OnOk result (code.new.items ≡ code.old.items ++ beginning_code frame first) }
 {
     put!(code; lui(X2, hi(frame)), addi(X2, X2, lo(frame)), lui(X1, hi(first)), addi(X1, X1, lo(first)),
@@ -145,7 +146,7 @@ fn begin(code: &mut Vec<Instr>, frame: u32, first: u32) -> Result<(), AllocError
 }
 
 /// The task begins at its first item, with a frame of zeros at this address and x5 to x29 zero.
-fn start_anew(code: &mut Vec<Instr>, frame: u32, words: u32, first: u32) -> Result<(), AllocError>
+fn start_anew(code: &mut Vec<Instr>, frame: u32, words: u32, first: u32) -> Added
     requires { words ≤ frame_limit }
     ensures { OnOk result (code.new.items ≡ code.old.items ++ fresh_start_code frame words first) }
 {

@@ -6,8 +6,8 @@ use Rattle.sloth_base.specs.declared.app.App.{App}
 use Rattle.sloth_base.specs.Named.{function, operation, item_of}
 use Rattle.bound_rules.specs.declared.bound.Body.{Body}
 use Rattle.walk_sums.specs.KnownBodies.{IsKnownBody}
-use Rattle.walk_sums.specs.declared.kinds.Kind.{Kind}
-use Rattle.walk_sums.specs.declared.kinds.Kind.TheVariants as kinds
+use Rattle.walk_sums.specs.declared.levels.Kind.{Kind}
+use Rattle.walk_sums.specs.declared.levels.Kind.TheVariants as kinds
 use Rattle.walk_sums.specs.Rounds.{is_wait}
 use Rattle.walk_sums.specs.Kinds.{StandsBehindWait, MayBegin, is_behind_wait, may_begin}
 

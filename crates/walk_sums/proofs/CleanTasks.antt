@@ -11,11 +11,11 @@ use Rattle.code_rules.specs.WellFormed.{WellFormed}
 use Rattle.osek_scheduler.proofs.Facts.{Facts}
 use Rattle.osek_scheduler.proofs.Stacks.{has_body}
 use Rattle.bound_rules.specs.declared.bound.Summary.{Summary}
-use Rattle.bound_rules.specs.declared.weights.BodyWeights.{BodyWeights}
+use Rattle.bound_rules.specs.declared.bound.BodyWeights.{BodyWeights}
 use Rattle.bound_rules.specs.Summaries.{summary_of}
 use Rattle.walk_sums.specs.Weights.{sum_of, AreWeightless, SmallEndings}
 use Rattle.walk_sums.proofs.Bodily.{facts_of}
-use Rattle.walk_sums.specs.declared.kinds.Kind.TheVariants as kinds
+use Rattle.walk_sums.specs.declared.levels.Kind.TheVariants as kinds
 use Rattle.walk_sums.specs.declared.counted.Counted.TheVariants as counts
 use Rattle.walk_sums.specs.Rounds.{IsPart, IsBehindWait, Anywhere, IsClean}
 use Rattle.walk_sums.specs.Kinds.{stops}

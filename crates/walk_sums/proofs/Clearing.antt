@@ -20,11 +20,11 @@ use Rattle.code_rules.specs.Code.{IsItem}
 use Rattle.osek_scheduler.proofs.Facts.{Facts}
 use Rattle.osek_blocking.specs.Walks.{Position, IsWalk}
 use Rattle.osek_blocking.specs.Sections.{operation_at}
-use Rattle.bound_rules.specs.declared.weights.BodyWeights.{BodyWeights}
+use Rattle.bound_rules.specs.declared.bound.BodyWeights.{BodyWeights}
 use Rattle.bound_rules.specs.Weights.{going_weight}
 use Rattle.walk_sums.specs.Weights.{going_at, ending_at, sum_of}
 use Rattle.walk_sums.proofs.Reached.{reached_inside}
-use Rattle.walk_sums.specs.declared.kinds.Kind.TheVariants as kinds
+use Rattle.walk_sums.specs.declared.levels.Kind.TheVariants as kinds
 use Rattle.walk_sums.specs.declared.counted.Counted.TheVariants as counts
 use Rattle.walk_sums.specs.Rounds.{OnlyLast, IsPart, IsBehindWait, Anywhere, is_wait, awaited, cleared, cleared_along, IsBetweenWaits, IsClean}
 use Rattle.walk_sums.specs.Kinds.{clears, stops}

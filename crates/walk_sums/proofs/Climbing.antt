@@ -11,14 +11,14 @@ use Rattle.code_rules.specs.Code.{IsItem}
 use Rattle.osek_scheduler.proofs.Facts.{Facts}
 use Rattle.osek_blocking.specs.Walks.{Place, Position, place, GoesBack, IsPositionStep, AreConsecutive, IsWalk, first_position}
 use Rattle.osek_blocking.specs.Sections.{operation_at}
-use Rattle.bound_rules.specs.declared.weights.BodyWeights.{BodyWeights}
+use Rattle.bound_rules.specs.declared.bound.BodyWeights.{BodyWeights}
 use Rattle.bound_rules.specs.Weights.{going_weight, ending_weight}
 use Rattle.walk_sums.specs.Weights.{going_at, sum_of}
 use Rattle.walk_sums.specs.Activations.{is_raised, called_level, IsRaisedCall, level_behind}
 use Rattle.walk_sums.proofs.LevelsAt.{leads_cases}
 use Rattle.walk_sums.proofs.Callers.{step_of, AreCallers, Walked, stands_on, item_at, walked_to}
-use Rattle.walk_sums.specs.declared.kinds.Kind.{Kind}
-use Rattle.walk_sums.specs.declared.kinds.Kind.TheVariants as kinds
+use Rattle.walk_sums.specs.declared.levels.Kind.{Kind}
+use Rattle.walk_sums.specs.declared.levels.Kind.TheVariants as kinds
 use Rattle.walk_sums.specs.Rounds.{OnlyLast, IsPart, IsFirst, IsBehindWait, is_wait}
 use Rattle.walk_sums.specs.Kinds.{stops, StandsBehindWait, MayBegin, MayFollow, MayOpen}
 use Rattle.walk_sums.specs.Parts.{IsOpenStep, SumsBack, SumsOn, SumsOut, SumsWithin, back_returns, back_inside, back_passes, on_ends, on_inside, on_enters, on_passes, out_here, out_behind, within_here, within_called, within_behind}

@@ -1,5 +1,5 @@
 -- A search of nodes in depth.
-use Rattle.std.proofs.Common.{◌≡◌, ℕ, ◌+◌, ◌*◌, ◌<◌, ◌≤◌, Bool, true, false, not, ◌||◌, ◌⊎◌, inl, inr, List, [], ◌∷◌, ◌++◌, length, get_or, set, take, cond, Option, Some, None, refl, ap, sym, ◌∙◌, subst, arith, ⊎_elim}
+use Rattle.std.proofs.Common.{◌≡◌, ℕ, ◌+◌, ◌*◌, ◌<◌, ◌≤◌, Bool, true, false, not, ◌||◌, ◌⊎◌, inl, inr, List, [], ◌∷◌, ◌++◌, length, get_or, set, take, cond, Option, Some, None, is_some, refl, ap, sym, ◌∙◌, subst, arith, ⊎_elim}
 use Rattle.std.specs.Prelude.{◌==◌, ◌≢◌}
 use Rattle.std.proofs.lemmas.Bool.{cases_eq, cases_lt, or_cases, eqb-true, eq-eqb, true≢false, false≢true}
 use Rattle.std.proofs.lemmas.List.{get_or-set_same, get_or-set_other, get_or_past, length-set, length-append, get_or_append_left, take-append-le}
@@ -8,7 +8,7 @@ use Rattle.std.proofs.lemmas.List.Folds.{list_any-append}
 use Rattle.std.proofs.lemmas.List.Sums.{sum_by-set}
 use Rattle.code_rules.specs.Code.{is_in}
 use Rattle.walk_sums.specs.declared.graph.Ways.{Ways}
-use Rattle.walk_sums.specs.Graph.{ways_of, HasWay, AreInside, IsLoop, IsOrder, unseen_way, first_of, unseen_of, is_open, leads_to_open, HasWayOn, IsChain, HasMark, IsSearching, AreStillSeen}
+use Rattle.walk_sums.specs.Graph.{ways_of, HasWay, AreInside, IsLoop, IsOrder, unseen_way, first_of, unseen_of, leads_to_open, HasWayOn, IsChain, HasMark, IsSearching, AreStillSeen}
 use Rattle.walk_sums.proofs.Unseen.{unseen_count}
 
 -- ---- members
@@ -140,37 +140,19 @@ module _ (ways : List Ways) where
       by None is h (inr f) = all_of_way seen (ways_of ways i).jump j h f
       by (Some k) is h f = absurd cc
 
-  open_of : (done : List Bool) (way : Option ℕ) → is_open done way ≡ true → (j : ℕ) × (way ≡ Some j) × (get_or done j false ≡ false)
-  open_of done None e = absurd (false≢true e)
-  open_of done (Some k) e = (k, refl, by (get_or done k false) e)
-    where
-      by : (b : Bool) → not b ≡ true → b ≡ false
-      by true e = absurd (false≢true e)
-      by false e = refl
-
-  closed_of : (done : List Bool) (way : Option ℕ) (j : ℕ) → is_open done way ≡ false → way ≡ Some j → HasMark done j
-  closed_of done None j e is = absurd cc
-  closed_of done (Some k) j e is = subst (HasMark done) (some_is k j is) (by (get_or done k false) e)
-    where
-      by : (b : Bool) → not b ≡ false → b ≡ true
-      by true e = refl
-      by false e = absurd (true≢false e)
-
   open_is : (done : List Bool) (i : ℕ) → leads_to_open ways done i ≡ true → (j : ℕ) × HasWay ways i j × (get_or done j false ≡ false)
-  open_is done i e = by (or_cases (is_open done (ways_of ways i).next) (is_open done (ways_of ways i).jump) e)
+  open_is done i e = by (unseen_of ways done i) refl e
     where
-      by : (is_open done (ways_of ways i).next ≡ true) ⊎ (is_open done (ways_of ways i).jump ≡ true) → (j : ℕ) × HasWay ways i j × (get_or done j false ≡ false)
-      by (inl h) = let f = open_of done (ways_of ways i).next h in (f.0, inl f.1, f.2)
-      by (inr h) = let f = open_of done (ways_of ways i).jump h in (f.0, inr f.1, f.2)
-
-  both_false : (a b : Bool) → (a || b) ≡ false → (a ≡ false) × (b ≡ false)
-  both_false true b e = absurd (true≢false e)
-  both_false false b e = (refl, e)
+      by : (o : Option ℕ) → unseen_of ways done i ≡ o → is_some o ≡ true → (j : ℕ) × HasWay ways i j × (get_or done j false ≡ false)
+      by None is h = absurd (false≢true h)
+      by (Some j) is h = let f = unseen_is done i j is in (j, f.0, f.1)
 
   all_done : (done : List Bool) (i j : ℕ) → leads_to_open ways done i ≡ false → HasWay ways i j → HasMark done j
-  all_done done i j e g =
-      let f = both_false (is_open done (ways_of ways i).next) (is_open done (ways_of ways i).jump) e in
-      ⊎_elim (λ h. closed_of done (ways_of ways i).next j f.0 h) (λ h. closed_of done (ways_of ways i).jump j f.1 h) g
+  all_done done i j e g = by (unseen_of ways done i) refl e
+    where
+      by : (o : Option ℕ) → unseen_of ways done i ≡ o → is_some o ≡ false → HasMark done j
+      by None is h = all_seen done i j is g
+      by (Some k) is h = absurd (true≢false h)
 
   -- ---- one step of the search, from node `from` at the end of the stack
 

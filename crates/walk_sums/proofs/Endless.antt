@@ -3,12 +3,12 @@ use Rattle.std.proofs.Common.{◌≡◌, ℕ, ◌+◌, ◌<◌, ◌≤◌, List,
 use Rattle.sloth_base.specs.declared.config.Config.{Config}
 use Rattle.sloth_base.specs.declared.app.App.{App}
 use Rattle.sloth_base.specs.Named.{function, operation}
-use Rattle.bound_rules.specs.declared.weights.BodyWeights.{BodyWeights}
+use Rattle.bound_rules.specs.declared.bound.BodyWeights.{BodyWeights}
 use Rattle.bound_rules.specs.Weights.{going_weight, ending_weight}
 use Rattle.walk_sums.specs.Activations.{is_plain}
 use Rattle.walk_sums.specs.Loops.{HasWeighingLoop}
 use Rattle.walk_sums.specs.Trails.{IsTrail, last_of}
-use Rattle.walk_sums.specs.declared.kinds.Kind.{Kind}
+use Rattle.walk_sums.specs.declared.levels.Kind.{Kind}
 use Rattle.walk_sums.specs.Parts.{SumsOn, on_ends, on_inside, on_passes}
 use Rattle.walk_sums.specs.Computed.{going_size}
 use Rattle.walk_sums.specs.Known.{IsEndless, IsSummed}

@@ -8,7 +8,7 @@ use Rattle.task_verify.specs.Ways.{HasBodyLabel}
 use Rattle.walk_sums.specs.declared.graph.Ways.{Ways}
 use Rattle.bound_rules.specs.declared.bound.Body.{Body}
 use Rattle.bound_rules.specs.declared.bound.Summary.{Summary}
-use Rattle.bound_rules.specs.declared.weights.BodyWeights.{BodyWeights}
+use Rattle.bound_rules.specs.declared.bound.BodyWeights.{BodyWeights}
 use Rattle.bound_rules.specs.Weights.{no_weights}
 use Rattle.bound_rules.specs.Summaries.{IsCountedUp}
 use Rattle.walk_sums.specs.Graph.{AreInside}
@@ -16,11 +16,10 @@ use Rattle.walk_sums.specs.Loops.{HasWeighingLoop}
 use Rattle.walk_sums.specs.Trails.{IsLongest, AreSizesInLimit}
 use Rattle.walk_sums.specs.Computed.{KnownBody, known_body_of, calls_endless, going_size, ending_size, leaving_size, summary_by}
 use Rattle.walk_sums.proofs.Bodily.{facts_of, labels_lead}
-use Rattle.walk_sums.specs.declared.kinds.Kind.{Kind}
+use Rattle.walk_sums.specs.declared.levels.Kind.{Kind}
 use Rattle.walk_sums.specs.declared.paths.Paths.{Paths}
-use Rattle.walk_sums.specs.declared.paths.TrailSizes.{TrailSizes}
 use Rattle.walk_sums.specs.Known.{IsExact, IsEndless, CallerCode, IsBefore}
-use Rattle.walk_sums.specs.Lists.{AreBodyWays, AreSteps, ArePaths, AreTrailSizes}
+use Rattle.walk_sums.specs.Lists.{AreBodyWays, AreSteps, ArePaths, AreEndingTrails, AreLeavingTrails}
 use Rattle.walk_sums.proofs.Leading.{inside}
 use Rattle.walk_sums.proofs.Measured.{Measures, Sizes}
 use Rattle.walk_sums.proofs.Endless.{endless_loop}
@@ -119,23 +118,23 @@ module _ (c : CallerCode) (before : IsBefore c) where
     endless_by_loop loop =
         endless_loop c.config c.app c.weights c.kind c.known.level c.number (measures ways_here) paths.steps steps_here.each before.summed loop
 
-    module _ (no_loop : ¬ (HasWeighingLoop paths.ways paths.steps)) (trails : TrailSizes) (t : AreTrailSizes c paths trails) where
+    module _ (no_loop : ¬ (HasWeighingLoop paths.ways paths.steps)) (on back : List ℕ) (ending : AreEndingTrails c paths on) (leaving : AreLeavingTrails c paths back) where
       -- the lists of its sizes
       abbrev sized : Func → Type 0
-      sized g = Sized g own_weights c.known.whole paths.alive paths.ways paths.steps t.ending.ends t.leaving.leaves trails.on trails.back
+      sized g = Sized g own_weights c.known.whole paths.alive paths.ways paths.steps ending.ends leaving.leaves on back
 
       sized_here : sized here
       sized_here = subst sized before.is_func (record {
         no_loop = no_loop;
         steps_are = are.steps.each;
-        ends_count = t.ending.ends_count;
-        ends_are = t.ending.ends_are;
-        leaves_count = t.leaving.leaves_count;
-        leaves_are = t.leaving.leaves_are;
-        on_count = t.ending.on_count;
-        on_is = t.ending.on_is;
-        back_count = t.leaving.back_count;
-        back_is = t.leaving.back_is;
+        ends_count = ending.ends_count;
+        ends_are = ending.ends_are;
+        leaves_count = leaving.leaves_count;
+        leaves_are = leaving.leaves_are;
+        on_count = ending.on_count;
+        on_is = ending.on_is;
+        back_count = leaving.back_count;
+        back_is = leaving.back_is;
       })
 
       sizes : Sizes c.config c.app c.weights c.kind c.known.level c.number (measures ways_here)
@@ -146,25 +145,25 @@ module _ (c : CallerCode) (before : IsBefore c) where
             steps = paths.steps;
             steps_are = s.steps_are;
             no_loop = s.no_loop;
-            ends = t.ending.ends;
+            ends = ending.ends;
             ends_count = s.ends_count;
             ends_are = s.ends_are;
-            leaves = t.leaving.leaves;
+            leaves = leaving.leaves;
             leaves_count = s.leaves_count;
             leaves_are = s.leaves_are;
-            on = trails.on;
+            on = on;
             on_count = s.on_count;
             on_is = s.on_is;
-            back = trails.back;
+            back = back;
             back_count = s.back_count;
             back_is = s.back_is;
           }
 
       -- the greatest sizes by the longest trails along the ways
-      pub exact_by : IsExact c.config c.app c.weights c.kind c.known.level c.number (summary_by c.known c.kind trails.on trails.back)
+      pub exact_by : IsExact c.config c.app c.weights c.kind c.known.level c.number (summary_by c.known c.kind on back)
       unfolding measures sizes
       exact_by =
-          let P : Func → Type 0 = λ g. IsExact c.config c.app c.weights c.kind c.known.level c.number (summary_by (known_with g) c.kind trails.on trails.back) in
+          let P : Func → Type 0 = λ g. IsExact c.config c.app c.weights c.kind c.known.level c.number (summary_by (known_with g) c.kind on back) in
           subst P (sym before.is_func)
           (summed c.config c.app c.weights c.kind c.known.level c.number before.known c.known.body before.is_body c.known.whole c.known.own calls bounded_here (measures ways_here) sizes)
 

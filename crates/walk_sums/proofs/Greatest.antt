@@ -7,7 +7,7 @@ use Rattle.sloth_base.specs.Limits.{count_limit}
 use Rattle.osek_scheduler.specs.Apart.{static_priority}
 use Rattle.osek_blocking.specs.Walks.{Position}
 use Rattle.osek_blocking.specs.Sections.{IsSection, IsSectionFor, IsLower}
-use Rattle.bound_rules.specs.declared.weights.BodyWeights.{BodyWeights}
+use Rattle.bound_rules.specs.declared.bound.BodyWeights.{BodyWeights}
 use Rattle.walk_sums.specs.declared.sections.Sum.{Sum}
 use Rattle.walk_sums.specs.declared.sections.Sum.TheVariants as sum
 use Rattle.walk_sums.specs.Told.{NoneIsAbove, SomeReaches, IsGreatestSum, ReachesLimit, IsToldSum}

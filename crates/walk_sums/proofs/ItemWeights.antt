@@ -8,7 +8,7 @@ use Rattle.sloth_base.specs.declared.app.Op.{Op}
 use Rattle.sloth_base.specs.Named.{function, operation, no_function, no_item}
 use Rattle.code_rules.specs.Code.{IsItem}
 use Rattle.osek_blocking.specs.Sections.{is_counted}
-use Rattle.bound_rules.specs.declared.weights.BodyWeights.{BodyWeights}
+use Rattle.bound_rules.specs.declared.bound.BodyWeights.{BodyWeights}
 use Rattle.bound_rules.specs.Weights.{no_weights, going_weight, ending_weight}
 use Rattle.walk_sums.specs.Weights.{AreWeights, item_weight, body_weights, item_weights}
 

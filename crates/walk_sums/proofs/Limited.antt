@@ -8,14 +8,14 @@ use Rattle.sloth_base.specs.declared.app.Op.TheVariants as op
 use Rattle.sloth_base.specs.Named.{operation}
 use Rattle.sloth_base.specs.Limits.{size_limit}
 use Rattle.call_graph.specs.Tables.{sum_below}
-use Rattle.bound_rules.specs.declared.weights.BodyWeights.{BodyWeights}
+use Rattle.bound_rules.specs.declared.bound.BodyWeights.{BodyWeights}
 use Rattle.bound_rules.specs.Weights.{going_weight, joined}
 use Rattle.bound_rules.specs.Summaries.{summary_of}
 use Rattle.walk_sums.specs.declared.graph.Ways.{Ways}
 use Rattle.walk_sums.specs.Loops.{HasWeighingLoop}
 use Rattle.walk_sums.specs.Trails.{IsTrail}
 use Rattle.walk_sums.specs.Activations.{is_plain, level_behind, ReachesItem, reaches_first, reaches_inside, ReachesCall, IsRaisedCall}
-use Rattle.walk_sums.specs.declared.kinds.Kind.{Kind}
+use Rattle.walk_sums.specs.declared.levels.Kind.{Kind}
 use Rattle.walk_sums.specs.Weights.{AreWeights}
 use Rattle.walk_sums.specs.Parts.{SumsBack, SumsOn, SumsOut, SumsWithin, on_ends, on_inside, on_enters, on_passes, out_here, out_behind, within_here, within_called, within_behind}
 use Rattle.walk_sums.specs.Computed.{going_size}

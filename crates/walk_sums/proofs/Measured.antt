@@ -21,12 +21,12 @@ use Rattle.walk_sums.specs.Activations.{is_raised, is_plain, ReachesItem, CanRet
 use Rattle.bound_rules.specs.Items.{reaches_level}
 use Rattle.walk_sums.specs.Links.{goes_past, item_ways}
 use Rattle.walk_sums.specs.Computed.{is_passed, is_alive, going_size, ending_size, leaving_size}
-use Rattle.bound_rules.specs.declared.weights.BodyWeights.{BodyWeights}
+use Rattle.bound_rules.specs.declared.bound.BodyWeights.{BodyWeights}
 use Rattle.bound_rules.specs.Weights.{going_weight, ending_weight, joined}
 use Rattle.bound_rules.specs.Summaries.{summary_of}
 use Rattle.walk_sums.specs.KnownBodies.{IsKnownBody}
 use Rattle.walk_sums.proofs.Reached.{step_of, not_true}
-use Rattle.walk_sums.specs.declared.kinds.Kind.{Kind}
+use Rattle.walk_sums.specs.declared.levels.Kind.{Kind}
 use Rattle.walk_sums.specs.Kinds.{stops, is_going}
 use Rattle.walk_sums.specs.Weights.{AreWeights}
 use Rattle.walk_sums.specs.Parts.{IsOpenStep, SumsBack, SumsOn, SumsOut, back_returns, back_inside, back_passes, on_ends, on_inside, on_enters, on_passes, out_here, out_behind}

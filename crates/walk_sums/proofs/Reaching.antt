@@ -13,11 +13,11 @@ use Rattle.osek_scheduler.proofs.Stacks.{has_body}
 use Rattle.osek_blocking.specs.Walks.{Position, IsWalk}
 use Rattle.osek_blocking.specs.Sections.{operation_at}
 use Rattle.bound_rules.specs.declared.bound.Summary.{Summary}
-use Rattle.bound_rules.specs.declared.weights.BodyWeights.{BodyWeights}
+use Rattle.bound_rules.specs.declared.bound.BodyWeights.{BodyWeights}
 use Rattle.bound_rules.specs.Summaries.{summary_of}
 use Rattle.walk_sums.specs.Weights.{ending_at, sum_of}
 use Rattle.walk_sums.proofs.Reached.{reached_inside}
-use Rattle.walk_sums.specs.declared.kinds.Kind.TheVariants as kinds
+use Rattle.walk_sums.specs.declared.levels.Kind.TheVariants as kinds
 use Rattle.walk_sums.specs.declared.counted.Counted.{Counted}
 use Rattle.walk_sums.specs.Rounds.{Anywhere, IsTurn, Reaches}
 use Rattle.walk_sums.specs.Counted.{CountsEnds, is_ending_counted, one_if, counted_weights}

@@ -3,8 +3,8 @@ use Rattle.std.proofs.Common.{◌≡◌, ℕ, true, false, List}
 use Rattle.std.proofs.lemmas.Bool.{false≢true, true≢false}
 use Rattle.walk_sums.specs.declared.graph.Ways.{Ways}
 use Rattle.walk_sums.specs.Loops.{HasWeighingLoop}
-use Rattle.walk_sums.specs.declared.shape.Shape.{Shape}
-use Rattle.walk_sums.specs.declared.shape.Shape.TheVariants as shapes
+use Rattle.walk_sums.specs.declared.paths.Shape.{Shape}
+use Rattle.walk_sums.specs.declared.paths.Shape.TheVariants as shapes
 use Rattle.walk_sums.specs.Shapes.{IsShape, HasOrder, is_endless}
 use Rattle.walk_sums.proofs.Ordered.{no_loop}
 

@@ -10,7 +10,7 @@ use Rattle.sloth_base.specs.Limits.{size_limit}
 use Rattle.walk_sums.specs.declared.graph.Ways.{Ways}
 use Rattle.bound_rules.specs.declared.bound.Summary.{Summary}
 use Rattle.walk_sums.specs.Trails.{AreSizes, AreSizesInLimit, IsLongest}
-use Rattle.bound_rules.specs.declared.weights.BodyWeights.{BodyWeights}
+use Rattle.bound_rules.specs.declared.bound.BodyWeights.{BodyWeights}
 use Rattle.walk_sums.specs.Computed.{going_size, ending_size, leaving_size}
 use Rattle.walk_sums.specs.Known.{IsGreatestPart}
 

@@ -9,7 +9,7 @@ use Rattle.code_rules.specs.WellFormed.{WellFormed}
 use Rattle.bound_rules.specs.declared.bound.Summary.{Summary}
 use Rattle.bound_rules.specs.Summaries.{summary_of}
 use Rattle.walk_sums.proofs.Bodily.{facts_of}
-use Rattle.walk_sums.specs.declared.kinds.Kind.TheVariants as kinds
+use Rattle.walk_sums.specs.declared.levels.Kind.TheVariants as kinds
 use Rattle.walk_sums.specs.declared.counted.Counted.TheVariants as counts
 use Rattle.walk_sums.specs.Rounds.{IsSteady}
 use Rattle.walk_sums.specs.Counted.{counted_weights}

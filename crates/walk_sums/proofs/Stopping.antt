@@ -1,8 +1,8 @@
 -- Neither a call nor a `ret` stops parts.
 use Rattle.std.proofs.Common.{◌≡◌, ℕ, false, refl}
 use Rattle.sloth_base.specs.declared.app.Op.TheVariants as op
-use Rattle.walk_sums.specs.declared.kinds.Kind.{Kind}
-use Rattle.walk_sums.specs.declared.kinds.Kind.TheVariants as kinds
+use Rattle.walk_sums.specs.declared.levels.Kind.{Kind}
+use Rattle.walk_sums.specs.declared.levels.Kind.TheVariants as kinds
 use Rattle.walk_sums.specs.Kinds.{stops}
 
 pub call_free : (k : Kind) (g : ℕ) → stops k (op.Invoke g) ≡ false

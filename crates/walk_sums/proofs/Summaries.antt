@@ -9,10 +9,10 @@ use Rattle.code_rules.specs.WellFormed.{WellFormed}
 use Rattle.walk_sums.proofs.Bodily.{facts_of}
 use Rattle.walk_sums.proofs.Reached.{called_known}
 use Rattle.bound_rules.specs.declared.bound.Summary.{Summary}
-use Rattle.bound_rules.specs.declared.weights.BodyWeights.{BodyWeights}
+use Rattle.bound_rules.specs.declared.bound.BodyWeights.{BodyWeights}
 use Rattle.walk_sums.specs.CallOrder.{IsCallOrder}
 use Rattle.bound_rules.specs.Summaries.{summary_of, unknown, IsCountedUp}
-use Rattle.walk_sums.specs.declared.kinds.Kind.{Kind}
+use Rattle.walk_sums.specs.declared.levels.Kind.{Kind}
 use Rattle.walk_sums.specs.Known.{IsSummary, AreSums}
 use Rattle.walk_sums.proofs.OrderSummaries.{AreSummariesOf}
 use Rattle.walk_sums.proofs.Ordering.{member, one_more}

@@ -14,7 +14,7 @@ use Rattle.stack_bounds.proofs.Below.{max_below-at, max_below-some, last_or_befo
 use Rattle.bound_rules.specs.declared.bound.Body.{Body}
 use Rattle.bound_rules.specs.declared.bound.Summary.{Summary}
 use Rattle.bound_rules.specs.Items.{reaches_level}
-use Rattle.bound_rules.specs.declared.weights.BodyWeights.{BodyWeights}
+use Rattle.bound_rules.specs.declared.bound.BodyWeights.{BodyWeights}
 use Rattle.bound_rules.specs.Weights.{joined}
 use Rattle.bound_rules.specs.Summaries.{summary_of, unknown}
 use Rattle.walk_sums.specs.Activations.{is_raised, called_level, level_behind, ReachesItem, reaches_first, ReachesCall, IsRaisedCall}
@@ -22,7 +22,7 @@ use Rattle.walk_sums.specs.Computed.{KnownBody, known_body_of, callee, called_su
 use Rattle.walk_sums.specs.KnownBodies.{IsKnownBody}
 use Rattle.walk_sums.proofs.KnownRaised.{known_raised}
 use Rattle.walk_sums.proofs.Counting.{any_is, none_is}
-use Rattle.walk_sums.specs.declared.kinds.Kind.{Kind}
+use Rattle.walk_sums.specs.declared.levels.Kind.{Kind}
 use Rattle.walk_sums.specs.Kinds.{MayBegin, may_begin}
 use Rattle.walk_sums.specs.Parts.{SumsBack, SumsOn, SumsOut, SumsWithin, out_here, out_behind, within_here, within_called, within_behind}
 use Rattle.walk_sums.specs.Known.{IsGreatestPart, HasLimit, IsExact, IsEndless, IsSummary, IsSummed}

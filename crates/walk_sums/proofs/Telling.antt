@@ -16,14 +16,14 @@ use Rattle.osek_scheduler.proofs.Stacks.{has_body}
 use Rattle.osek_blocking.specs.Walks.{Position, place}
 use Rattle.osek_blocking.specs.Sections.{priority_at, is_schedule, OnlyLastSchedules, IsSection, IsLower}
 use Rattle.bound_rules.specs.declared.bound.Summary.{Summary}
-use Rattle.bound_rules.specs.declared.weights.BodyWeights.{BodyWeights}
+use Rattle.bound_rules.specs.declared.bound.BodyWeights.{BodyWeights}
 use Rattle.bound_rules.specs.Summaries.{summary_of}
 use Rattle.bound_rules.specs.Tasks.{task_summary}
 use Rattle.walk_sums.specs.Weights.{sum_of, AreWeights}
 use Rattle.walk_sums.proofs.LevelsAt.{L, level_raised, level_called}
 use Rattle.walk_sums.proofs.LowerLevels.{level_is}
-use Rattle.walk_sums.specs.declared.kinds.Kind.{Kind}
-use Rattle.walk_sums.specs.declared.kinds.Kind.TheVariants as kinds
+use Rattle.walk_sums.specs.declared.levels.Kind.{Kind}
+use Rattle.walk_sums.specs.declared.levels.Kind.TheVariants as kinds
 use Rattle.walk_sums.specs.declared.sections.Sum.{Sum}
 use Rattle.walk_sums.specs.declared.sections.Sum.TheVariants as sum
 use Rattle.walk_sums.specs.Rounds.{OnlyLast, IsPart, IsFirst, Anywhere, IsTurn}

@@ -17,12 +17,12 @@ use Rattle.osek_blocking.specs.Walks.{Position, place, IsPositionStep, AreConsec
 use Rattle.std.proofs.lemmas.List.{append_assoc}
 use Rattle.osek_blocking.specs.Sections.{operation_at}
 use Rattle.osek_blocking.proofs.Reached.{IsReached, walk_on, reached_next, reached_first}
-use Rattle.bound_rules.specs.declared.weights.BodyWeights.{BodyWeights}
+use Rattle.bound_rules.specs.declared.bound.BodyWeights.{BodyWeights}
 use Rattle.bound_rules.specs.Weights.{going_weight}
 use Rattle.walk_sums.specs.Weights.{going_at, ending_at, sum_of, AreWeights}
 use Rattle.walk_sums.specs.Activations.{is_raised, called_level, is_plain, ReachesItem, reaches_first, reaches_inside, reaches_behind, IsRaisedCall, ReachesCall, level_behind}
-use Rattle.walk_sums.specs.declared.kinds.Kind.{Kind}
-use Rattle.walk_sums.specs.declared.kinds.Kind.TheVariants as kinds
+use Rattle.walk_sums.specs.declared.levels.Kind.{Kind}
+use Rattle.walk_sums.specs.declared.levels.Kind.TheVariants as kinds
 use Rattle.walk_sums.specs.Rounds.{OnlyLast, IsPart, IsFirst, IsBehindWait, is_wait}
 use Rattle.walk_sums.specs.Kinds.{stops, StandsBehindWait, MayBegin, MayFollow, MayOpen, MayOpenPart}
 use Rattle.walk_sums.specs.Parts.{IsOpenStep, SumsBack, SumsOn, SumsOut, SumsWithin, back_returns, back_inside, back_passes, on_ends, on_inside, on_enters, on_passes, out_here, out_behind, within_here, within_called, within_behind}

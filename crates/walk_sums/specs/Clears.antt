@@ -10,7 +10,7 @@ use Rattle.bound_rules.specs.Summaries.{summary_of}
 use Rattle.bound_rules.specs.Tasks.{task_at}
 use Rattle.sloth_base.specs.declared.config.TaskDecl.{TaskDecl}
 use Rattle.walk_sums.specs.Weights.{sum_of}
-use Rattle.walk_sums.specs.declared.kinds.Kind.TheVariants as kinds
+use Rattle.walk_sums.specs.declared.levels.Kind.TheVariants as kinds
 use Rattle.walk_sums.specs.declared.counted.Counted.{Counted}
 use Rattle.walk_sums.specs.declared.counted.Counted.TheVariants as counts
 use Rattle.walk_sums.specs.Rounds.{IsPart, IsBehindWait, Anywhere, Reaches}

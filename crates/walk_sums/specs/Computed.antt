@@ -11,7 +11,7 @@ use Rattle.bound_rules.specs.declared.bound.Summary.{Summary}
 use Rattle.bound_rules.specs.Items.{reaches_level, callee_of}
 use Rattle.bound_rules.specs.Summaries.{summary_of, unknown}
 use Rattle.bound_rules.specs.Weights.{joined}
-use Rattle.walk_sums.specs.declared.kinds.Kind.{Kind}
+use Rattle.walk_sums.specs.declared.levels.Kind.{Kind}
 use Rattle.walk_sums.specs.Kinds.{may_begin}
 
 -- ---- what is known

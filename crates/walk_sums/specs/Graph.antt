@@ -1,9 +1,7 @@
 -- Nodes with two ways on at most, and a search of them in depth.
-use Rattle.std.specs.Prelude.{ℕ, ◌<◌, ◌≡◌, ◌⊎◌, not, Bool, true, false, ◌||◌, cond, List, [], ◌∷◌, length, Option, Some, None, get_or, take}
+use Rattle.std.specs.Prelude.{ℕ, ◌<◌, ◌≡◌, ◌⊎◌, Bool, true, false, cond, List, [], ◌∷◌, length, Option, Some, None, is_some, get_or, take}
 use Rattle.code_rules.specs.Code.{is_in}
 use Rattle.walk_sums.specs.declared.graph.Ways.{Ways}
-use Rattle.walk_sums.specs.declared.graph.Found.{Found}
-use Rattle.walk_sums.specs.declared.graph.Found.TheVariants as found
 
 -- ---- nodes
 
@@ -35,10 +33,10 @@ pub record IsLoop (ways : List Ways) (nodes : List ℕ) : Type 0 where
   pub inside : (i : ℕ) → is_in i nodes ≡ true → i < length ways
   pub goes : (i : ℕ) → is_in i nodes ≡ true → (j : ℕ) × HasWay ways i j × (is_in j nodes ≡ true)
 
--- what is found of the nodes
-abbrev pub IsFound : List Ways → Found → Type 0
-IsFound ways (found.Order order) = IsOrder ways order
-IsFound ways found.Loop = (nodes : List ℕ) × IsLoop ways nodes
+-- what is found of the nodes: an order, or none where there is a loop
+abbrev pub IsFound : List Ways → Option (List ℕ) → Type 0
+IsFound ways (Some order) = IsOrder ways order
+IsFound ways None = (nodes : List ℕ) × IsLoop ways nodes
 
 -- ---- the search
 
@@ -56,14 +54,9 @@ first_of (Some j) other = Some j
 abbrev pub unseen_of : List Ways → List Bool → ℕ → Option ℕ
 unseen_of ways seen i = first_of (unseen_way seen (ways_of ways i).next) (unseen_way seen (ways_of ways i).jump)
 
--- a way leads to a node that is not done
-abbrev pub is_open : List Bool → Option ℕ → Bool
-is_open done None = false
-is_open done (Some j) = not (get_or done j false)
-
 -- node i leads to one that is not done
 abbrev pub leads_to_open : List Ways → List Bool → ℕ → Bool
-leads_to_open ways done i = is_open done (ways_of ways i).next || is_open done (ways_of ways i).jump
+leads_to_open ways done i = is_some (unseen_of ways done i)
 
 -- node i leads to the first of these, if there is one
 abbrev pub HasWayOn : List Ways → ℕ → List ℕ → Type 0

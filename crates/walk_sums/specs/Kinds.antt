@@ -11,8 +11,8 @@ use Rattle.code_rules.specs.Code.{IsItem}
 use Rattle.osek_blocking.specs.Walks.{Position, chains_itself}
 use Rattle.osek_blocking.specs.Sections.{is_schedule}
 use Rattle.walk_sums.specs.Activations.{ReachesItem}
-use Rattle.walk_sums.specs.declared.kinds.Kind.{Kind}
-use Rattle.walk_sums.specs.declared.kinds.Kind.TheVariants as kind
+use Rattle.walk_sums.specs.declared.levels.Kind.{Kind}
+use Rattle.walk_sums.specs.declared.levels.Kind.TheVariants as kind
 use Rattle.walk_sums.specs.Rounds.{is_wait, IsBehindWait}
 
 -- the operation clears some of these events

@@ -7,10 +7,10 @@ use Rattle.sloth_base.specs.Limits.{size_limit}
 use Rattle.code_rules.specs.Code.{HasCall}
 use Rattle.code_rules.specs.WellFormed.{WellFormed}
 use Rattle.bound_rules.specs.declared.bound.Summary.{Summary}
-use Rattle.bound_rules.specs.declared.weights.BodyWeights.{BodyWeights}
+use Rattle.bound_rules.specs.declared.bound.BodyWeights.{BodyWeights}
 use Rattle.bound_rules.specs.Summaries.{summary_of, AreCountedUp}
-use Rattle.walk_sums.specs.declared.kinds.Kind.{Kind}
-use Rattle.walk_sums.specs.declared.kinds.Kind.TheVariants as kind
+use Rattle.walk_sums.specs.declared.levels.Kind.{Kind}
+use Rattle.walk_sums.specs.declared.levels.Kind.TheVariants as kind
 use Rattle.walk_sums.specs.KnownBodies.{IsKnownBody, no_body}
 use Rattle.walk_sums.specs.WalkedCode.{WalkedCode}
 use Rattle.walk_sums.specs.Computed.{KnownBody, known_body_of}

@@ -4,13 +4,12 @@ use Rattle.sloth_base.specs.declared.app.Func.{Func}
 use Rattle.sloth_base.specs.Named.{item_of}
 use Rattle.bound_rules.specs.declared.bound.Body.{Body}
 use Rattle.bound_rules.specs.declared.bound.Summary.{Summary}
-use Rattle.bound_rules.specs.declared.weights.BodyWeights.{BodyWeights}
+use Rattle.bound_rules.specs.declared.bound.BodyWeights.{BodyWeights}
 use Rattle.bound_rules.specs.Weights.{no_weights}
 use Rattle.bound_rules.specs.Summaries.{summary_of}
 use Rattle.walk_sums.specs.declared.graph.Ways.{Ways}
-use Rattle.walk_sums.specs.declared.kinds.Kind.{Kind}
+use Rattle.walk_sums.specs.declared.levels.Kind.{Kind}
 use Rattle.walk_sums.specs.declared.paths.Paths.{Paths}
-use Rattle.walk_sums.specs.declared.paths.TrailSizes.{TrailSizes}
 use Rattle.walk_sums.specs.Graph.{ways_of}
 use Rattle.walk_sums.specs.Trails.{IsLongest}
 use Rattle.walk_sums.specs.Shapes.{IsShape}
@@ -62,8 +61,3 @@ pub record AreLeavingTrails (c : CallerCode) (paths : Paths) (back : List ℕ) :
       → get_or leaves i 0 ≡ cond (get_or paths.alive i false) (leaving_size (get_or (weights_of c).going i 0) (item_of c.known.func i).op) 0
   pub back_count : length back ≡ length paths.ways
   pub back_is : (i : ℕ) → i < length paths.ways → IsLongest paths.ways paths.steps leaves i (get_or back i 0)
-
--- both
-pub record AreTrailSizes (c : CallerCode) (paths : Paths) (sizes : TrailSizes) : Type 0 where
-  pub ending : AreEndingTrails c paths sizes.on
-  pub leaving : AreLeavingTrails c paths sizes.back

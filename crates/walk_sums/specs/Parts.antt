@@ -5,10 +5,10 @@ use Rattle.sloth_base.specs.declared.app.App.{App}
 use Rattle.sloth_base.specs.declared.app.Op.TheVariants as op
 use Rattle.sloth_base.specs.Named.{operation}
 use Rattle.code_rules.specs.Code.{IsItem}
-use Rattle.bound_rules.specs.declared.weights.BodyWeights.{BodyWeights}
+use Rattle.bound_rules.specs.declared.bound.BodyWeights.{BodyWeights}
 use Rattle.bound_rules.specs.Weights.{going_weight, ending_weight}
 use Rattle.walk_sums.specs.Activations.{is_raised, IsInnerStep, ReachesItem, IsRaisedCall, ReachesCall, level_behind}
-use Rattle.walk_sums.specs.declared.kinds.Kind.{Kind}
+use Rattle.walk_sums.specs.declared.levels.Kind.{Kind}
 use Rattle.walk_sums.specs.Kinds.{stops, MayBegin}
 
 -- at item i of function f, behind which parts go on, the task is raised, and a walk goes on to item j

@@ -3,7 +3,7 @@ use Rattle.std.specs.Prelude.{ℕ, zero, suc, ◌<◌, ◌≡◌, max, List, [],
 use Rattle.sloth_base.specs.declared.config.Config.{Config}
 use Rattle.sloth_base.specs.declared.app.App.{App}
 use Rattle.osek_blocking.specs.Sections.{IsSection, IsLower}
-use Rattle.bound_rules.specs.declared.weights.BodyWeights.{BodyWeights}
+use Rattle.bound_rules.specs.declared.bound.BodyWeights.{BodyWeights}
 use Rattle.walk_sums.specs.declared.sections.Sum.{Sum}
 use Rattle.walk_sums.specs.declared.sections.Sum.TheVariants as sum
 use Rattle.walk_sums.specs.Told.{IsToldSum}

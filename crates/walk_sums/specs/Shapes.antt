@@ -3,8 +3,8 @@ use Rattle.std.specs.Prelude.{ℕ, Bool, true, false, List}
 use Rattle.walk_sums.specs.declared.graph.Ways.{Ways}
 use Rattle.walk_sums.specs.Graph.{IsOrder}
 use Rattle.walk_sums.specs.Loops.{HasWeighingLoop}
-use Rattle.walk_sums.specs.declared.shape.Shape.{Shape}
-use Rattle.walk_sums.specs.declared.shape.Shape.TheVariants as shape
+use Rattle.walk_sums.specs.declared.paths.Shape.{Shape}
+use Rattle.walk_sums.specs.declared.paths.Shape.TheVariants as shape
 
 -- in an order of the nodes, in loops along which nothing weighs, or in one along which something does
 abbrev pub IsShape : List Ways → (steps : List ℕ) → Shape → Type 0

@@ -7,13 +7,13 @@ use Rattle.sloth_base.specs.Named.{body_of}
 use Rattle.sloth_base.specs.Limits.{count_limit}
 use Rattle.osek_blocking.specs.Walks.{Position}
 use Rattle.bound_rules.specs.declared.bound.Summary.{Summary}
-use Rattle.bound_rules.specs.declared.weights.BodyWeights.{BodyWeights}
+use Rattle.bound_rules.specs.declared.bound.BodyWeights.{BodyWeights}
 use Rattle.bound_rules.specs.Summaries.{summary_of}
 use Rattle.bound_rules.specs.Tasks.{task_summary}
 use Rattle.walk_sums.specs.Weights.{sum_of}
 use Rattle.walk_sums.specs.declared.sections.Sum.{Sum}
 use Rattle.walk_sums.specs.declared.sections.Sum.TheVariants as sum
-use Rattle.walk_sums.specs.declared.tasks.RoundSums.{RoundSums}
+use Rattle.walk_sums.specs.declared.sections.RoundSums.{RoundSums}
 use Rattle.walk_sums.specs.Rounds.{IsFirstRound, IsLaterRound}
 
 -- ---- greatest sums of parts

@@ -7,7 +7,7 @@ use Rattle.sloth_base.specs.Named.{operation}
 use Rattle.sloth_base.specs.Limits.{size_limit}
 use Rattle.osek_blocking.specs.Walks.{Position}
 use Rattle.osek_blocking.specs.Sections.{is_counted}
-use Rattle.bound_rules.specs.declared.weights.BodyWeights.{BodyWeights}
+use Rattle.bound_rules.specs.declared.bound.BodyWeights.{BodyWeights}
 use Rattle.bound_rules.specs.Weights.{going_weight, ending_weight}
 use Rattle.walk_sums.specs.Activations.{is_plain}
 

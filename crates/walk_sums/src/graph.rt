@@ -1,13 +1,13 @@
-//! Nodes with two ways on at most: an order in which every node stands behind those that it leads to, or a loop.
-//! The functions in an order in which each stands behind those that it calls.
-//! The longest trails through nodes that stand in an order.
-ghost use Rattle.std.specs.Prelude.{◌≡◌, ℕ, ◌<◌, [], ◌∷◌, ◌++◌, length, get_or, set, true, false, IfOk, OnOk, ◌≤◌, Some};
-ghost use Rattle.walk_sums.specs.Graph.{unseen_way, unseen_of, is_open, leads_to_open, AreInside, IsSearching, IsSearchEnd, IsSearched, IsFound, HasWay, IsOrder};
+//! Nodes with two ways on at most: an order in which each stands behind those that it leads to, or a loop; the longest
+//! trails through nodes in such an order; what a search from a node reaches. Such an order of the functions by calls.
+ghost use Rattle.std.specs.Prelude.{◌≡◌, ℕ, ◌<◌, [], ◌∷◌, ◌++◌, length, get_or, set, true, false, IfOk, OnOk, ◌≤◌, Some, ◌↔◌};
+ghost use Rattle.walk_sums.specs.Graph.{unseen_way, unseen_of, leads_to_open, AreInside, IsSearching, IsSearchEnd, IsSearched, IsFound, HasWay, IsOrder, HasMark};
 ghost use Rattle.code_rules.specs.Code.{HasCall};
 ghost use Rattle.call_graph.specs.Ranks.{RanksOf};
 ghost use Rattle.walk_sums.specs.CallOrder.{IsCallOrder, IsLeastRank, lesser};
 ghost use Rattle.sloth_base.specs.Limits.{size_limit};
 ghost use Rattle.walk_sums.specs.Trails.{along, longest_from, AreSizes, AreSizesInLimit, IsLongest};
+ghost use Rattle.walk_sums.specs.Search.{IsReachable, IsSpreading};
 
 use bound_rules::{is_marked, joined, number_at};
 use call_graph::Ranks;
@@ -15,20 +15,14 @@ use sloth_base::{App, List, Result};
 use std::alloc::Global;
 use text_pieces::push;
 
+/// A number for each node or item.
+pub type Sizes = Result<Vec<u32>>;
+
 /// Where a node leads.
 #[derive(Clone, Copy)]
 pub struct Ways {
     pub next: Option<usize>,
     pub jump: Option<usize>,
-}
-
-/// What a search of all nodes finds.
-#[derive(Drop)]
-pub enum Found {
-    /// Each node stands behind those that it leads to.
-    Order(List<usize>),
-    /// There is a loop.
-    Loop,
 }
 
 /// Where the way leads, if that is not seen yet.
@@ -55,24 +49,13 @@ pub fn unseen_next(ways: &[Ways], seen: &[bool], from: usize) -> Option<usize>
     }
 }
 
-/// Whether the way leads to a node that is not done.
-fn is_open(done: &[bool], way: Option<usize>) -> bool
-    requires { (j : ℕ) → way ≡ Some j → j < length done.now }
-    ensures { result ≡ is_open done.now way }
-{
-    match way {
-        Some(node) => !done[node],
-        None => false,
-    }
-}
-
 fn leads_to_open(ways: &[Ways], done: &[bool], from: usize) -> bool
     requires inside { AreInside ways.now }
     requires count { length done.now ≡ length ways.now }
     requires known { from < length ways.now }
     ensures { result ≡ leads_to_open ways.now done.now from }
 {
-    is_open(done, ways[from].next) || is_open(done, ways[from].jump)
+    unseen_next(ways, done, from).is_some()
 }
 
 /// Marks a node and puts it at the end of the list.
@@ -125,7 +108,6 @@ pub fn no_marks(alloc: Global, count: usize) -> Result<Vec<bool>>
     Ok(marks)
 }
 
-/// Searches from each node that is not seen yet.
 fn search(
     ways: &[Ways],
     seen: &mut [bool],
@@ -149,8 +131,8 @@ fn search(
     Ok(false)
 }
 
-/// An order in which each node stands behind those that it leads to, or that there is a loop.
-pub fn finish_order(alloc: Global, ways: &[Ways]) -> Result<Found>
+/// An order in which each node stands behind those that it leads to; none where there is a loop.
+pub fn finish_order(alloc: Global, ways: &[Ways]) -> Result<Option<List<usize>>>
     requires { AreInside ways.now }
     ensures { IfOk result (IsFound ways.now) }
 {
@@ -159,9 +141,9 @@ pub fn finish_order(alloc: Global, ways: &[Ways]) -> Result<Found>
     let mut stack = Vec::new(alloc);
     let mut order = Vec::new(alloc);
     if search(ways, &mut seen, &mut done, &mut stack, &mut order)? {
-        Ok(Found::Loop)
+        Ok(None)
     } else {
-        Ok(Found::Order(List::from_vec(order)))
+        Ok(Some(List::from_vec(order)))
     }
 }
 
@@ -230,7 +212,7 @@ pub fn longest_size(ways: &[Ways], table: &[u32], steps: &[u32], ends: &[u32], n
     ends[node].max(next.max(jump))
 }
 
-pub fn zeros(alloc: Global, count: usize) -> Result<Vec<u32>>
+pub fn zeros(alloc: Global, count: usize) -> Sizes
     ensures count { IfOk result (λ table. length table.items ≡ count) }
     ensures none { IfOk result (λ table. (i : ℕ) → get_or table.items i 0 ≡ 0) }
 {
@@ -239,13 +221,7 @@ pub fn zeros(alloc: Global, count: usize) -> Result<Vec<u32>>
 }
 
 /// For each node the size of the longest trail from it.
-pub fn longest(
-    alloc: Global,
-    ways: &[Ways],
-    order: &[usize],
-    steps: &[u32],
-    ends: &[u32],
-) -> Result<Vec<u32>>
+pub fn longest(alloc: Global, ways: &[Ways], order: &[usize], steps: &[u32], ends: &[u32]) -> Sizes
     requires order { IsOrder ways.now order.now }
     requires sizes { AreSizes ways.now steps.now ends.now }
     ensures count { IfOk result (λ table. length table.items ≡ length ways.now) }
@@ -257,4 +233,49 @@ pub fn longest(
         table[*node] = longest_size(ways, &table, steps, ends, *node);
     }
     Ok(table)
+}
+
+/// Goes on from the nodes of the stack until all that they lead to are marked.
+fn spread(ways: &[Ways], first: usize, marks: &mut [bool], stack: &mut Vec<usize>) -> Result<()>
+    requires inside { AreInside ways.now }
+    requires spreading { IsSpreading ways.now first marks.old stack.old.items }
+    ensures { OnOk result ((i : ℕ) → HasMark marks.new i ↔ IsReachable ways.now first i) }
+{
+    loop {
+        match stack.pop() {
+            None => return Ok(()),
+            Some(from) => match unseen_next(ways, marks, from) {
+                Some(node) => {
+                    push(stack, from)?;
+                    keep(marks, stack, node)?;
+                }
+                None => {}
+            },
+        }
+    }
+}
+
+fn spread_out(ways: &[Ways], first: usize, marks: &mut [bool], stack: &mut Vec<usize>) -> Result<()>
+    requires inside { AreInside ways.now }
+    requires some { first < length ways.now }
+    requires count { length marks.old ≡ length ways.now }
+    requires clear { (i : ℕ) → i < length ways.now → get_or marks.old i false ≡ false }
+    requires none { stack.old.items ≡ [] }
+    ensures { OnOk result ((i : ℕ) → HasMark marks.new i ↔ IsReachable ways.now first i) }
+{
+    keep(marks, stack, first)?;
+    spread(ways, first, marks, stack)
+}
+
+/// The nodes that this one reaches.
+pub fn reachable(alloc: Global, ways: &[Ways], first: usize) -> Result<Vec<bool>>
+    requires some { first < length ways.now }
+    requires inside { AreInside ways.now }
+    ensures count { IfOk result (λ marks. length marks.items ≡ length ways.now) }
+    ensures exact { IfOk result (λ marks. (i : ℕ) → HasMark marks.items i ↔ IsReachable ways.now first i) }
+{
+    let mut marks = no_marks(alloc, ways.len())?;
+    let mut stack = Vec::new(alloc);
+    spread_out(ways, first, &mut marks, &mut stack)?;
+    Ok(marks)
 }

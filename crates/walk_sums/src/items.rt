@@ -8,7 +8,8 @@ ghost use Rattle.walk_sums.specs.Kinds.{is_going};
 ghost use Rattle.walk_sums.specs.Computed.{is_alive, is_passed, going_size, ending_size, leaving_size};
 
 use crate::Kind;
-use crate::kinds::is_going;
+use crate::graph::Sizes;
+use crate::levels::is_going;
 use bound_rules::{Body, Summary, is_marked, joined, number_at, reaches_level, summary_of};
 use sloth_base::{Func, Op, Result};
 use std::alloc::Global;
@@ -23,10 +24,8 @@ pub fn alive_items(alloc: Global, func: &Func, body: &Body, level: Option<u32>) 
     let mut alive = Vec::new(alloc);
     for number in 0..func.items.items().len() {
         let is_raised = reaches_level(level, number_at(body.ceilings.items(), number));
-        push(
-            &mut alive,
-            is_marked(body.reached.items(), number) && is_raised,
-        )?;
+        let is_reached = is_marked(body.reached.items(), number);
+        push(&mut alive, is_reached && is_raised)?;
     }
     Ok(alive)
 }
@@ -67,12 +66,15 @@ fn going_size(whole: &[Summary], weight: u32, op: Op) -> u32
     }
 }
 
-/// The size of a part that ends with it, or in a function that it calls.
-fn ending_size(whole: &[Summary], weight: u32, op: Op) -> u32
+/// The size of a part that ends with it, or in a function that it calls; 0 where it is not alive.
+fn ending_size(alive: bool, whole: &[Summary], weight: u32, op: Op) -> u32
     requires whole_small { AreCountedUp whole.now }
     requires small { weight ≤ size_limit }
-    ensures { result ≡ ending_size whole.now weight op }
+    ensures { result ≡ cond alive (ending_size whole.now weight op) 0 }
 {
+    if !alive {
+        return 0;
+    }
     match op {
         Op::Invoke { func } => joined(weight, summary_of(whole, func).on.max(1)),
         _ => joined(weight, 1),
@@ -80,30 +82,21 @@ fn ending_size(whole: &[Summary], weight: u32, op: Op) -> u32
 }
 
 /// That of a part that leaves the function with it.
-fn leaving_size(weight: u32, op: Op) -> u32
+fn leaving_size(alive: bool, weight: u32, op: Op) -> u32
     requires small { weight ≤ size_limit }
-    ensures { result ≡ leaving_size weight op }
+    ensures { result ≡ cond alive (leaving_size weight op) 0 }
 {
+    if !alive {
+        return 0;
+    }
     match op {
         Op::Return => joined(weight, 1),
         _ => 0,
     }
 }
 
-/// The size, where the item is alive.
-fn if_alive(alive: bool, size: u32) -> u32
-    ensures { result ≡ cond alive size 0 }
-{
-    if alive { size } else { 0 }
-}
-
 /// What each item adds to a part that goes on behind it.
-pub fn going_sizes(
-    alloc: Global,
-    func: &Func,
-    weights: &[u32],
-    whole: &[Summary],
-) -> Result<Vec<u32>>
+pub fn going_sizes(alloc: Global, func: &Func, weights: &[u32], whole: &[Summary]) -> Sizes
     requires whole { AreCountedUp whole.now }
     requires small { AreSizesInLimit weights.now }
     ensures count { IfOk result (λ sizes. length sizes.items ≡ length func.now.items) }
@@ -125,7 +118,7 @@ pub fn ending_sizes(
     weights: &[u32],
     alive: &[bool],
     whole: &[Summary],
-) -> Result<Vec<u32>>
+) -> Sizes
     requires whole { AreCountedUp whole.now }
     requires small { AreSizesInLimit weights.now }
     ensures count { IfOk result (λ sizes. length sizes.items ≡ length func.now.items) }
@@ -136,19 +129,14 @@ pub fn ending_sizes(
     let mut sizes = Vec::new(alloc);
     for number in 0..func.items.items().len() {
         let weight = number_at(weights, number);
-        let size = ending_size(whole, weight, func.op(number));
-        push(&mut sizes, if_alive(is_marked(alive, number), size))?;
+        let size = ending_size(is_marked(alive, number), whole, weight, func.op(number));
+        push(&mut sizes, size)?;
     }
     Ok(sizes)
 }
 
 /// That of a part that leaves the function with it.
-pub fn leaving_sizes(
-    alloc: Global,
-    func: &Func,
-    weights: &[u32],
-    alive: &[bool],
-) -> Result<Vec<u32>>
+pub fn leaving_sizes(alloc: Global, func: &Func, weights: &[u32], alive: &[bool]) -> Sizes
     requires small { AreSizesInLimit weights.now }
     ensures count { IfOk result (λ sizes. length sizes.items ≡ length func.now.items) }
     ensures exact { IfOk result (λ sizes. (i : ℕ) → i < length func.now.items
@@ -158,8 +146,8 @@ pub fn leaving_sizes(
     let mut sizes = Vec::new(alloc);
     for number in 0..func.items.items().len() {
         let weight = number_at(weights, number);
-        let size = leaving_size(weight, func.op(number));
-        push(&mut sizes, if_alive(is_marked(alive, number), size))?;
+        let size = leaving_size(is_marked(alive, number), weight, func.op(number));
+        push(&mut sizes, size)?;
     }
     Ok(sizes)
 }

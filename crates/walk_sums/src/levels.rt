@@ -1,13 +1,16 @@
-//! The summaries of all functions at a level, by weights that may be 0. A function before its summary.
+//! The summaries of all functions at a level, by weights that may be 0. Which parts of walks are summed.
 ghost use Rattle.std.specs.Prelude.{◌≡◌, ℕ, ◌<◌, None, Some, length, get_or, IfOk};
 ghost use Rattle.bound_rules.specs.Summaries.{IsCountedUp, summary_of, unknown};
 ghost use Rattle.walk_sums.specs.KnownBodies.{no_body};
 ghost use Rattle.walk_sums.specs.Weights.{AreWeights};
 ghost use Rattle.walk_sums.specs.Known.{AreSums, IsSummed, IsBefore, IsSummaryFor, caller_code};
+ghost use Rattle.walk_sums.specs.Rounds.{is_wait};
+ghost use Rattle.walk_sums.specs.Kinds.{stops, may_begin, is_going};
 
-use crate::{Kind, Walks, numbered_function};
-use bound_rules::{Body, BodyWeights, Summary, UNKNOWN};
-use sloth_base::{App, Config, Func, Result};
+use crate::{Walks, numbered_function};
+use bound_rules::{Body, BodyWeights, Summary, UNKNOWN, is_marked, is_schedule};
+use osek_blocking::chains_itself;
+use sloth_base::{App, Config, Func, Op, Result, Service};
 use std::alloc::Global;
 use std::marker::Model;
 use text_pieces::push;
@@ -32,7 +35,6 @@ pub fn numbered_body(bodies: &[Body], number: usize) -> &Body
 }
 
 impl Walks<'_> {
-    /// The summary of function `number`, from those of the functions that it calls.
     fn function_summary(
         &self,
         weights: &[BodyWeights],
@@ -91,16 +93,10 @@ impl Walks<'_> {
         ensures { IfOk result (λ own.
             AreSums self.now.config self.now.app weights.now kind (Some priority) own.items) }
     {
+        let level = Some(priority);
         let mut own = unknown(self.alloc(), self.app().funcs.items().len())?;
         for number in self.order() {
-            let summary = self.function_summary(
-                &*weights,
-                kind,
-                Some(priority),
-                *number,
-                &*whole,
-                &own,
-            )?;
+            let summary = self.function_summary(&*weights, kind, level, *number, &*whole, &own)?;
             own[*number] = summary;
         }
         Ok(own)
@@ -147,4 +143,73 @@ impl<'a> Model for Caller<'a> {
       number = c.number;
       known = known_body_of c.func.now c.body.now c.level c.whole.now c.own.now;
     }) };
+}
+
+/// Which parts of walks: behind which operations none goes on, and where they begin besides the first item of a body.
+#[derive(Clone, Copy)]
+pub enum Kind {
+    /// Of turns: they begin with the first item, and go on behind each operation.
+    Turns,
+    /// Of rounds: no part goes on behind a WaitEvent; they begin behind one, too.
+    Rounds,
+    /// Of raised sections: no part goes on behind a Schedule; they begin anywhere.
+    Sections,
+    /// Of raised sections that begin at an item of this source line or a lesser one.
+    EarlySections(u32),
+    /// Between two WaitEvents, as long as none of these events is cleared.
+    Uncleared(u32),
+}
+
+/// Whether an operation is a WaitEvent.
+pub fn is_wait(op: Op) -> bool
+    ensures { result ≡ is_wait op }
+{
+    match op {
+        Op::Serve(call) => call.service.code() == Service::WaitEvent.code(),
+        _ => false,
+    }
+}
+
+fn stops(kind: Kind, op: Op) -> bool
+    ensures { result ≡ stops kind op }
+{
+    match kind {
+        Kind::Turns => false,
+        Kind::Rounds => is_wait(op),
+        Kind::Sections | Kind::EarlySections(_) => is_schedule(op),
+        Kind::Uncleared(events) => match op {
+            Op::Serve(call) => {
+                call.service.code() == Service::WaitEvent.code()
+                    || (call.service.code() == Service::ClearEvent.code()
+                        && call.mask & events != 0)
+            }
+            _ => false,
+        },
+    }
+}
+
+/// Whether a part may begin at an item that walks reach.
+pub fn may_begin(kind: Kind, func: &Func, reached: &[bool], number: usize) -> bool
+    requires { number < length func.now.items }
+    ensures { result ≡ may_begin kind func.now reached.now number }
+{
+    let items = func.items.items();
+    match kind {
+        Kind::Turns => false,
+        Kind::Rounds | Kind::Uncleared(_) => {
+            0 < number && (is_marked(reached, number - 1) && is_wait(items[number - 1].op))
+        }
+        Kind::Sections => true,
+        Kind::EarlySections(line) => items[number].line <= line,
+    }
+}
+
+/// Whether parts go on behind an item.
+pub fn is_going(func: &Func, kind: Kind, alive: &[bool], number: usize) -> bool
+    requires { number < length func.now.items }
+    ensures { result ≡ is_going func.now kind alive.now number }
+{
+    let items = func.items.items();
+    is_marked(alive, number)
+        && (!stops(kind, items[number].op) && !chains_itself(func, items[number].op))
 }

@@ -1,4 +1,4 @@
-//! Task code that is walked, as one value. The greatest sums of raised sections that begin early in the source text.
+//! Task code that is walked, as one value.
 ghost use Rattle.std.specs.Prelude.{◌≡◌, ◌<◌, length, IfOk};
 ghost use Rattle.sloth_base.specs.Named.{body_of, declaration};
 ghost use Rattle.code_rules.specs.WellFormed.{WellFormed};

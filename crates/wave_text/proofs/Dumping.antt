@@ -4,7 +4,7 @@ use Rattle.std.specs.Prelude.{Bool, true, false, if◌then◌else◌}
 use Rattle.std.proofs.lemmas.Bool.Decides.{eqb_tells}
 use Rattle.std.proofs.lemmas.List.{flat_map_more}
 use Rattle.std.proofs.Math.Numerals.{add-one}
-use Rattle.wave_text.specs.declared.recording.Moment.{Moment}
+use Rattle.wave_text.specs.declared.dump.Moment.{Moment}
 use Rattle.wave_text.specs.declared.dump.Dump.{Dump}
 use Rattle.wave_text.specs.declared.signals.Scope.{Scope}
 use Rattle.wave_text.specs.declared.signals.Width.{Width}

@@ -23,7 +23,7 @@ use Rattle.run_samples.proofs.OneSample.{samples-more}
 use Rattle.sloth_runner.proofs.RunStates.{one-last}
 use Rattle.sloth_inspect.specs.declared.service_words.ServiceWords.{ServiceWords}
 use Rattle.wave_text.specs.declared.dump.Dump.{Dump}
-use Rattle.wave_text.specs.declared.recording.Moment.{Moment}
+use Rattle.wave_text.specs.declared.dump.Moment.{Moment}
 use Rattle.wave_text.specs.Changes.{DumpEntry, changes, entries_from, with_moment}
 use Rattle.wave_text.specs.Header.{header}
 use Rattle.wave_text.specs.Text.{entry_line, entry_lines}

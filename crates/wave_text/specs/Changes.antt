@@ -1,7 +1,7 @@
 -- The changes of signals in time.
 use Rattle.std.specs.Prelude.{ℕ, zero, suc, ◌+◌, ◌==◌, Bool, true, false, cond, if◌then◌else◌, List, [], ◌∷◌, ◌++◌, length, Option, Some, None}
 use Rattle.sloth_base.specs.declared.numbers.Owners.{Owners}
-use Rattle.wave_text.specs.declared.recording.Moment.{Moment}
+use Rattle.wave_text.specs.declared.dump.Moment.{Moment}
 use Rattle.wave_text.specs.declared.signals.Scope.{Scope}
 use Rattle.wave_text.specs.declared.signals.Scope.TheVariants as scope
 use Rattle.wave_text.specs.declared.signals.Width.{Width}

@@ -7,7 +7,7 @@ use Rattle.sloth_inspect.specs.declared.service_words.ServiceWords.{ServiceWords
 use Rattle.run_samples.specs.ServiceWords.{words_behind}
 use Rattle.sloth_runner.specs.declared.task_states.Seen.{Seen}
 use Rattle.run_samples.specs.declared.samples.Sample.{Sample}
-use Rattle.wave_text.specs.declared.recording.Moment.{Moment}
+use Rattle.wave_text.specs.declared.dump.Moment.{Moment}
 
 -- words that say 0
 abbrev pub no_words : ServiceWords

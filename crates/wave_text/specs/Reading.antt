@@ -1,7 +1,7 @@
 -- How a dump is read: the value that it gives a signal at a moment.
 use Rattle.std.specs.Prelude.{ℕ, ◌+◌, ◌==◌, ◌≡◌, ◌<◌, nat_le, if◌then◌else◌, List, [], ◌∷◌, slice_get, Option, None}
 use Rattle.sloth_base.specs.declared.numbers.Owners.{Owners}
-use Rattle.wave_text.specs.declared.recording.Moment.{Moment}
+use Rattle.wave_text.specs.declared.dump.Moment.{Moment}
 use Rattle.wave_text.specs.declared.signals.Scope.{Scope}
 use Rattle.wave_text.specs.Changes.{DumpEntry, entries}
 use Rattle.wave_text.specs.Signals.{first_code, level_signal, masked_code, signal_count, signal_value, level_value, masked_value}

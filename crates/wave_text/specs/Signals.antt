@@ -6,7 +6,7 @@ use Rattle.sloth_base.specs.declared.numbers.Owners.{Owners}
 use Rattle.sloth_base.specs.Limits.{task_limit, counter_limit, alarm_limit}
 use Rattle.sloth_inspect.specs.StateNumbers.{state_number}
 use Rattle.sloth_runner.specs.declared.task_states.Seen.{Seen}
-use Rattle.wave_text.specs.declared.recording.Moment.{Moment}
+use Rattle.wave_text.specs.declared.dump.Moment.{Moment}
 use Rattle.wave_text.specs.declared.signals.Scope.{Scope}
 use Rattle.wave_text.specs.declared.signals.Scope.TheVariants as scope
 use Rattle.wave_text.specs.declared.signals.Width.{Width}

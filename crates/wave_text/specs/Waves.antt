@@ -8,9 +8,9 @@ use Rattle.run_samples.specs.Samples.{AreSamples}
 use Rattle.sloth_runner.specs.Runner.{run_end}
 use Rattle.sloth_runner.specs.declared.runner.RunEnd.TheVariants as ends
 use Rattle.wave_text.specs.declared.dump.Dump.{Dump}
-use Rattle.wave_text.specs.declared.recording.Moment.{Moment}
-use Rattle.wave_text.specs.declared.recording.Recorded.{Recorded}
-use Rattle.wave_text.specs.declared.recording.Recorded.TheVariants as recorded
+use Rattle.wave_text.specs.declared.dump.Moment.{Moment}
+use Rattle.wave_text.specs.declared.dump.Recorded.{Recorded}
+use Rattle.wave_text.specs.declared.dump.Recorded.TheVariants as recorded
 use Rattle.wave_text.specs.Changes.{DumpEntry, entries, with_moment, stands_behind}
 use Rattle.wave_text.specs.Header.{header}
 use Rattle.wave_text.specs.Moments.{moments_of}

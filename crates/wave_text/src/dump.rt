@@ -1,22 +1,27 @@
-//! The changes of signals, written as they come.
-ghost use Rattle.std.specs.Prelude.{◌≡◌, ◌≤◌, ◌++◌, ◌+◌, true, false, OnOk};
-ghost use Rattle.sloth_base.specs.Limits.{task_limit, counter_limit, alarm_limit};
-ghost use Rattle.wave_text.specs.Changes.{DumpEntry, same_value, change_entries, kernel_changes, changes};
-ghost use Rattle.wave_text.specs.Changes.{scope_changes, moment_entries, with_moment};
-ghost use Rattle.wave_text.specs.Text.{digit, byte_digits, word_digits, value_text, signal_end, entry_line};
-ghost use Rattle.wave_text.specs.Text.{entry_lines};
+//! The changes of signals, written as they come. The waves of a run.
+//! What waves show of a count: its sample, and what the service words said when the tasks were seen.
+ghost use Rattle.std.specs.Prelude.{◌≡◌, ◌≤◌, ◌++◌, ◌+◌, true, false, OnOk, IfOk};
+ghost use Rattle.sloth_base.specs.Limits.{task_limit, counter_limit, alarm_limit, count_limit};
+ghost use Rattle.wave_text.specs.Changes.{DumpEntry, same_value, change_entries, kernel_changes, changes, scope_changes, moment_entries, with_moment};
+ghost use Rattle.wave_text.specs.Text.{digit, byte_digits, word_digits, value_text, signal_end, entry_line, entry_lines};
 ghost use Rattle.wave_text.specs.Signals.{most_signals, alarm_count};
 ghost use Rattle.wave_text.specs.declared.signals.Scope.TheVariants.{Values, Alarms};
-ghost use Rattle.wave_text.specs.Waves.{HasNewEntries};
+ghost use Rattle.wave_text.specs.Waves.{HasNewEntries, AreWaves};
+ghost use Rattle.sloth_base.specs.ImageRange.{InFormat};
+ghost use Rattle.sloth_base.specs.Arrivals.{AreArrivals};
+ghost use Rattle.sloth_base.specs.Owners.{owners_named};
+ghost use Rattle.wave_text.specs.Moments.{no_words, words_behind_look};
 
-use crate::keeping::keeps;
-use crate::recording::Moment;
+use crate::header::header;
 use crate::signals::{
-    LEVEL, MASKED, Scope, Width, alarm_count, first_code, level_value, masked_value, signal_value,
-    signal_width,
+    LEVEL, MASKED, Scope, Width, alarm_count, first_code, keeps, level_value, masked_value,
+    signal_value, signal_width,
 };
-use sloth_base::Result;
+use run_samples::{Sample, Sampler, ServiceWords};
 use sloth_base::numbers::Owners;
+use sloth_base::{ALARM_LIMIT, Arrival, COUNTER_LIMIT, Image, NoMemory, Result, TASK_LIMIT};
+use sloth_runner::Halt;
+use std::alloc::Global;
 use text_pieces::line;
 use text_pieces::pieces::Piece::{Number, Word};
 
@@ -248,5 +253,88 @@ impl Dump {
     {
         self.count = count;
         self.stamp()
+    }
+}
+
+/// The waves of a run, or where and why it stops.
+#[derive(Drop)]
+pub enum Recorded {
+    Text(Vec<u8>),
+    Stopped(Halt),
+}
+
+/// The waves of the first n instructions, at most `COUNT_LIMIT`, of the run of an image with arrivals.
+pub fn waves(
+    alloc: Global,
+    image: &Image,
+    arrivals: &[Arrival],
+    n: u32,
+) -> Result<Recorded, NoMemory>
+    requires format { InFormat image.now }
+    requires arrivals { AreArrivals (owners_named image.now) arrivals.now }
+    requires few { n ≤ count_limit }
+    ensures { IfOk result (AreWaves image.now arrivals.now n) }
+{
+    let owners = Owners {
+        tasks: image.tasks.items().len(),
+        counters: image.counters.items().len(),
+    };
+    let mut dump = Dump {
+        text: header(alloc, image)?,
+        count: 0,
+        stamped: false,
+    };
+    let mut sampler = Sampler::new(alloc, image, arrivals)?;
+    let mut words = no_words();
+    let mut old = None;
+    for count in 0..n {
+        let now = sampler.service_words();
+        match sampler.next() {
+            Ok(sample) => {
+                words = words_behind_look(&sample, count, &words, &now);
+                let new = Some(Moment { sample, words });
+                dump.moment(count, &owners, &old, &new)?;
+                old = new;
+            }
+            Err(halt) => return Ok(Recorded::Stopped(halt)),
+        }
+    }
+    dump.end(n)?;
+    Ok(Recorded::Text(dump.text))
+}
+
+/// A count of a run.
+#[derive(Clone, Copy)]
+pub struct Moment {
+    pub sample: Sample,
+    /// The service words at the count at which the tasks were seen, 0 where they were not.
+    pub words: ServiceWords,
+}
+
+/// Words that say 0.
+pub fn no_words() -> ServiceWords
+    ensures { result ≡ no_words }
+{
+    ServiceWords {
+        events: [0; TASK_LIMIT],
+        counters: [0; COUNTER_LIMIT],
+        alarms: [0; ALARM_LIMIT],
+    }
+}
+
+/// The words of a count of which this is the sample: those that it shows, where the tasks are seen there, and else
+/// those of the count before.
+pub fn words_behind_look(
+    sample: &Sample,
+    count: u32,
+    before: &ServiceWords,
+    now: &ServiceWords,
+) -> ServiceWords
+    ensures { result ≡ words_behind_look sample.now count before.now now.now }
+{
+    match &sample.seen {
+        Some(seen) if seen.count == count => *now,
+        Some(_) => *before,
+        None => *before,
     }
 }

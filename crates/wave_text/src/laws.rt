@@ -2,7 +2,7 @@
 ghost use Rattle.std.specs.Prelude.{ℕ, ◌≡◌, ◌<◌, ◌≤◌, List, All, length};
 ghost use Rattle.sloth_base.specs.declared.numbers.Owners.{Owners};
 ghost use Rattle.sloth_base.specs.Limits.{task_limit, counter_limit};
-ghost use Rattle.wave_text.specs.declared.recording.Moment.{Moment};
+ghost use Rattle.wave_text.specs.declared.dump.Moment.{Moment};
 ghost use Rattle.wave_text.specs.Reading.{ReadsBack};
 ghost use Rattle.wave_text.specs.Signals.{code_text, IsPrintable};
 

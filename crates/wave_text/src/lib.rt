@@ -7,11 +7,9 @@
 //! `run_samples`.
 #![tactic(auto)]
 
-mod dump;
+pub mod dump;
 mod header;
-mod keeping;
 pub mod laws;
-pub mod recording;
 pub mod signals;
 
-pub use recording::{Recorded, waves};
+pub use dump::{Recorded, waves};

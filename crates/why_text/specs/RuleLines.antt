@@ -19,10 +19,10 @@ use Rattle.task_verify.specs.Labels.{last_label_below}
 use Rattle.fault_witnesses.specs.CallChains.{chain_end}
 use Rattle.fault_witnesses.specs.declared.chains.Calls.{Calls}
 use Rattle.fault_witnesses.specs.declared.chains.Link.{Link}
-use Rattle.fault_witnesses.specs.declared.places.Place.{Place}
-use Rattle.fault_witnesses.specs.declared.places.Place.TheVariants as place
+use Rattle.fault_witnesses.specs.declared.breaches.Place.{Place}
+use Rattle.fault_witnesses.specs.declared.breaches.Place.TheVariants as place
 use Rattle.fault_witnesses.specs.declared.users.User.{User}
-use Rattle.fault_witnesses.specs.declared.ways.Way.{Way}
+use Rattle.fault_witnesses.specs.declared.witnesses.Way.{Way}
 use Rattle.fault_witnesses.specs.declared.witnesses.Witness.{Witness}
 
 -- ---- a word and a name

@@ -12,8 +12,7 @@ ghost use Rattle.why_text.specs.WhyLines.{TellsFault, TellsNames, TellsCycle, Is
 ghost use Rattle.why_text.specs.WhyLines.{code_cause, lines_limit, AreWhyLines, IsWhy};
 
 use crate::naming::{forms_text, names_text, oil_text};
-use crate::rule_lines::push_place;
-use crate::way_lines::push_calls;
+use crate::rule_lines::{push_calls, push_place};
 use asm_lines::{SourceLine, read_lines};
 use asm_parse::parse_app;
 use asm_scopes::{Kind, kind_of, written};
@@ -32,8 +31,6 @@ fn no_lines(alloc: Global) -> List<u8>
 {
     List::from_vec(Vec::new(alloc))
 }
-
-// ---- names
 
 fn text_config(alloc: Global, oil: &[u8]) -> Result<Option<Config>>
     requires { length oil.now < 4294967295 }
@@ -59,9 +56,6 @@ fn name_lines(alloc: Global, oil: &[u8], src: &[u8], refusal: Refusal) -> Result
     }
 }
 
-// ---- cycles of calls
-
-// The number of a body whose header stands on this line.
 fn body_on_line(app: &App, line: u32) -> Option<usize>
     ensures known { IfSome result (λ b. b < length app.now.funcs) }
     ensures line { IfSome result (λ b. line ≡ (function app.now b).line) }
@@ -74,7 +68,6 @@ fn body_on_line(app: &App, line: u32) -> Option<usize>
     None
 }
 
-// The line of a cycle of calls of the body with this header, if there is one.
 fn cycle_on_line(alloc: Global, app: &App, line: u32) -> Found
     ensures { IfOk result (λ found. IfSome found (λ lines. IsCycleOn app.now line lines)) }
 {
@@ -126,8 +119,6 @@ fn refusal_cycle(alloc: Global, oil: &[u8], src: &[u8], refusal: Refusal) -> Fou
         None => Ok(None),
     }
 }
-
-// ---- rules of task code
 
 /// The lines that tell a fault of this task code of V2 to V12, of at most 4,294,967,294 bytes of source.
 pub fn told_fault(
@@ -183,12 +174,9 @@ fn refusal_fault(alloc: Global, oil: &[u8], src: &[u8], refusal: Refusal) -> Fou
     }
 }
 
-// ---- all
-
 // The most bytes of the lines of a cycle or of a fault of task code.
 const LINES_LIMIT: usize = 1_073_741_824;
 
-// What explains a refusal.
 #[derive(Clone, Copy)]
 enum Cause {
     Nothing,
@@ -219,13 +207,8 @@ fn few_lines(alloc: Global, found: Option<List<u8>>) -> List<u8>
     ensures { (result ≡ []) ⊎ ((found ≡ Some result) × (length result ≤ lines_limit)) }
 {
     match found {
-        Some(lines) => {
-            if lines.items().len() <= LINES_LIMIT {
-                return lines;
-            }
-            no_lines(alloc)
-        }
-        None => no_lines(alloc),
+        Some(lines) if lines.items().len() <= LINES_LIMIT => lines,
+        _ => no_lines(alloc),
     }
 }
 

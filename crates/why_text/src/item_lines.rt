@@ -1,19 +1,27 @@
 //! The lines of an item that breaks a rule. Lines of a word and a name or a number.
+//! Items and labels by their numbers. Where there is none of a number: a `Return` of line 0, no name, no list.
 ghost use Rattle.std.specs.Prelude.{◌≡◌, ◌++◌, ◌<◌, length, Some, OnOk};
-ghost use Rattle.why_text.specs.RuleLines.{size_lines, run_out_lines, target_lines, op_object, release_lines};
-ghost use Rattle.why_text.specs.RuleLines.{op_callee, culprit_item, called_lines, taken_lines, left_lines};
-ghost use Rattle.why_text.specs.RuleLines.{is_of_resource, user_lines, word_line, name_line};
-ghost use Rattle.why_text.specs.RuleLines.{last_lines, number_line};
+ghost use Rattle.why_text.specs.RuleLines.{size_lines, run_out_lines, target_lines, op_object, release_lines, op_callee, culprit_item, called_lines, taken_lines, left_lines, is_of_resource, user_lines, word_line, name_line, last_lines, number_line};
+ghost use Rattle.sloth_base.specs.Named.{item_of, label_of, symbol_size};
 
-use crate::numbered::{item, label_holds, symbol_size};
-use crate::way_lines::push_calls;
-use crate::{label_name, push_list_line};
-use fault_witnesses::{Calls, Link, User, chain_end};
-use sloth_base::{App, Config, Func, Item, Op, Result, Service};
+use crate::push_list_line;
+use crate::rule_lines::push_calls;
+use fault_witnesses::{Calls, Witness, chain_end};
+use sloth_base::{App, Code, Config, Func, Item, Op, ResId, Result, Service};
 use std::alloc::Global;
 use task_verify::{falls, held_by, way};
 use text_pieces::line;
 use text_pieces::pieces::Piece::{Count, Number, Word};
+
+/// Task code, a rule that it breaks, and what shows that.
+#[derive(Clone, Copy)]
+pub struct Shown<'t> {
+    pub alloc: Global,
+    pub config: &'t Config,
+    pub app: &'t App,
+    pub code: Code,
+    pub witness: &'t Witness,
+}
 
 /// V2 to V4: what is accessed, and its size.
 pub fn push_size(text: &mut Vec<u8>, app: &App, func: &Func, op: Op) -> Result<()>
@@ -49,18 +57,13 @@ pub fn push_run_out(text: &mut Vec<u8>, func: &Func, item: usize) -> Result<()>
 }
 
 /// V7: a label, and its list.
-pub fn push_target(
-    alloc: Global,
-    text: &mut Vec<u8>,
-    config: &Config,
-    func: &Func,
-    label: usize,
-) -> Result<()>
-    ensures { OnOk result (text.new.items ≡ text.old.items ++ target_lines config.now func.now (Some label)) }
+pub fn push_target(text: &mut Vec<u8>, shown: &Shown, func: &Func, label: usize) -> Result<()>
+    ensures { OnOk result (text.new.items ≡ text.old.items
+        ++ target_lines shown.now.config.now func.now (Some label)) }
 {
     push_name(text, label_name(func, label))?;
-    let holds = held_by(alloc, label_holds(func, label))?;
-    push_list_line(text, config, b"lists", &holds)
+    let holds = held_by(shown.alloc, label_holds(func, label))?;
+    push_list_line(text, shown.config, b"lists", &holds)
 }
 
 fn op_object(op: Op) -> u32
@@ -122,31 +125,33 @@ fn push_called(text: &mut Vec<u8>, app: &App, item: &Item, calls: &Calls) -> Res
 }
 
 /// V9: the resource that is taken twice, and the calls that take it.
-pub fn push_taken(
-    text: &mut Vec<u8>,
-    config: &Config,
-    app: &App,
-    item: &Item,
-    calls: &Option<Calls>,
-) -> Result<()>
-    ensures { OnOk result (text.new.items ≡ text.old.items ++ taken_lines config.now app.now item.now calls.now) }
+pub fn push_taken(text: &mut Vec<u8>, shown: &Shown, item: &Item) -> Result<()>
+    ensures { OnOk result (text.new.items ≡ text.old.items
+        ++ taken_lines shown.now.config.now shown.now.app.now item.now shown.now.witness.now.calls) }
 {
-    match calls {
+    match &shown.witness.calls {
         Some(calls) => {
-            let culprit = culprit_item(app, item.op, calls);
-            push_name(text, config.resource_name(op_object(culprit.op) as usize))?;
-            push_called(text, app, item, calls)
+            let culprit = culprit_item(shown.app, item.op, calls);
+            push_name(
+                text,
+                shown.config.resource_name(op_object(culprit.op) as usize),
+            )?;
+            push_called(text, shown.app, item, calls)
         },
-        None => push_name(text, config.resource_name(op_object(item.op) as usize)),
+        None => push_name(
+            text,
+            shown.config.resource_name(op_object(item.op) as usize),
+        ),
     }
 }
 
 /// V10: the calls that lead to the wait.
-pub fn push_left(text: &mut Vec<u8>, app: &App, item: &Item, calls: &Option<Calls>) -> Result<()>
-    ensures { OnOk result (text.new.items ≡ text.old.items ++ left_lines app.now item.now calls.now) }
+pub fn push_left(text: &mut Vec<u8>, shown: &Shown, item: &Item) -> Result<()>
+    ensures { OnOk result (text.new.items ≡ text.old.items
+        ++ left_lines shown.now.app.now item.now shown.now.witness.now.calls) }
 {
-    match calls {
-        Some(calls) => push_called(text, app, item, calls),
+    match &shown.witness.calls {
+        Some(calls) => push_called(text, shown.app, item, calls),
         None => Ok(()),
     }
 }
@@ -164,16 +169,12 @@ fn is_of_resource(op: Op) -> bool
 }
 
 /// V12: the task, what it lacks, and the calls from its body.
-pub fn push_user(
-    text: &mut Vec<u8>,
-    config: &Config,
-    app: &App,
-    op: &Op,
-    user: &Option<User>,
-) -> Result<()>
-    ensures { OnOk result (text.new.items ≡ text.old.items ++ user_lines config.now app.now op.now user.now) }
+pub fn push_user(text: &mut Vec<u8>, shown: &Shown, op: &Op) -> Result<()>
+    ensures { OnOk result (text.new.items ≡ text.old.items
+        ++ user_lines shown.now.config.now shown.now.app.now op.now shown.now.witness.now.user) }
 {
-    let Some(user) = user else {
+    let (config, app) = (shown.config, shown.app);
+    let Some(user) = &shown.witness.user else {
         return Ok(());
     };
     push_line(text, b"task", config.task_name(user.task))?;
@@ -216,4 +217,62 @@ pub fn push_count_line(text: &mut Vec<u8>, word: &[u8], count: usize) -> Result<
     ensures { OnOk result (text.new.items ≡ text.old.items ++ number_line word.now count) }
 {
     line!(text; Word(word), Word(b" "), Count(count), Word(b"\n"))
+}
+
+/// An item.
+pub fn item(func: &Func, number: usize) -> Item
+    ensures { result ≡ item_of func.now number }
+{
+    match func.items.items().get(number) {
+        Some(item) => *item,
+        None => Item {
+            line: 0,
+            op: Op::Return,
+        },
+    }
+}
+
+/// The line of an item.
+pub fn item_line(func: &Func, number: usize) -> u32
+    ensures { result ≡ (item_of func.now number).line }
+{
+    item(func, number).line
+}
+
+/// The name of a label.
+pub fn label_name(func: &Func, number: usize) -> &[u8]
+    ensures { result.now ≡ (label_of func.now number).name }
+{
+    match func.labels.items().get(number) {
+        Some(label) => label.name.bytes(),
+        None => b"",
+    }
+}
+
+/// The line of a label.
+pub fn label_line(func: &Func, number: usize) -> u32
+    ensures { result ≡ (label_of func.now number).line }
+{
+    func.labels
+        .items()
+        .get(number)
+        .map_or(0, |label| label.line)
+}
+
+/// The list of a label.
+pub fn label_holds(func: &Func, number: usize) -> &[ResId]
+    ensures { result.now ≡ (label_of func.now number).holds }
+{
+    match func.labels.items().get(number) {
+        Some(label) => label.holds.items(),
+        None => &[],
+    }
+}
+
+/// The bytes of a symbol.
+pub fn symbol_size(app: &App, number: usize) -> usize
+    ensures { result ≡ symbol_size app.now number }
+{
+    let symbol = app.symbols.items().get(number);
+    symbol.map_or(0, |symbol| symbol.bytes.items().len())
 }

@@ -7,13 +7,10 @@
 
 pub mod explaining;
 mod item_lines;
-mod named_faults;
 mod naming;
-mod numbered;
 mod oil_names;
 mod rule_lines;
-mod way_lines;
 
 pub use explaining::{Why, explain, ranked_texts, told_fault};
-pub use numbered::{label_line, label_name};
-pub use way_lines::{push_list_line, push_way_line};
+pub use item_lines::{label_line, label_name};
+pub use rule_lines::{push_list_line, push_way_line};

@@ -1,36 +1,40 @@
 //! The lines behind a refusal of names, forms or meaning: the name that it concerns, and each fault of its stage.
-ghost use Rattle.std.specs.Prelude.{IfSome, ◌≡◌, ◌<◌, ◌^◌, ◌++◌, length, IsTrue, IfOk, IfErr, OnOk, nat_lt, take};
+//! Faults of a stage with the names that were found for them.
+ghost use Rattle.std.specs.Prelude.{IfSome, ◌≡◌, ◌<◌, ◌^◌, ◌++◌, length, IsTrue, IfOk, IfErr, OnOk, nat_lt, take, ◌==◌, ◌&&◌, ◌||◌, ℕ, List, false, bytes_eq};
 ghost use Rattle.sloth_base.specs.declared.refusal.Part.TheVariants.{Src, Oil};
 ghost use Rattle.sloth_base.specs.Order.{ErrorIs};
 ghost use Rattle.asm_lines.specs.Faults.{source_lines, SourceLinesFault};
 ghost use Rattle.stage_faults.specs.ToldNames.{ToldName};
-ghost use Rattle.why_text.specs.NameLines.{first_lines, more_lines, is_word, HasName, IsNamed, TellsNotes};
-ghost use Rattle.why_text.specs.NameLines.{AreFaultLines};
-ghost use Rattle.why_text.specs.NameLines.{among_lines, told_lines, TellsNamed, AreNamedLines};
+ghost use Rattle.why_text.specs.NameLines.{first_lines, more_lines, is_word, HasName, IsNamed, TellsNotes, AreFaultLines, among_lines, told_lines, TellsNamed, AreNamedLines};
 ghost use Rattle.why_text.specs.WhyLines.{TellsForms, TellsNamesFor, LacksTree, TellsMeaning};
-ghost use Rattle.std.specs.List.{list_all};
+ghost use Rattle.std.specs.List.{list_all, list_any};
 ghost use Rattle.oil_parse.specs.Text.{HasTree};
-ghost use Rattle.stage_faults.specs.Told.{AreInOrder};
+ghost use Rattle.stage_faults.specs.Told.{AreInOrder, note_order};
 ghost use Rattle.stage_faults.specs.ToldModel.{ToldModel};
+ghost use Rattle.std.specs.List.Sorted.{IsNonDecreasingBy};
+ghost use Rattle.why_text.specs.NamedFaults.{is_same_place, is_key, apart_with, first_of_each, AddsGroup, NamesAll, AreKeys, StandApart};
 
 use crate::item_lines::{push_name, push_number_line};
-use crate::named_faults::with_names;
 use crate::oil_names::{is_refusal_fault, oil_names};
 use asm_lines::{SourceLine, read};
 use asm_scopes::bodies_of;
 use command_line::code_text;
+use indexmap::IndexSet;
 use oil_parse::{OilTree, parse, tokens};
+use oil_table::insert;
 use sloth_base::{BuildError, Config, List, NoMemory, Refusal, Result};
-use stage_faults::told_list::told_list;
-use stage_faults::{Note, line_notes, model_notes, name_notes, put_in_order};
+use stage_faults::notes::told_list;
+use stage_faults::{Note, line_notes, model_notes, name_notes, order, put_in_order};
 use std::alloc::Global;
-use text_pieces::line;
 use text_pieces::pieces::Piece::{Number, Word};
+use text_pieces::{line, push};
 
 // The lines behind a refusal.
-type Text = Result<List<u8>>;
+type Text<E = NoMemory> = Result<List<u8>, E>;
 
-// ---- the lines
+type Notes<'t> = Result<Vec<Note<'t>>>;
+
+type Seen<'t> = IndexSet<(u64, &'t [u8])>;
 
 fn push_first(text: &mut Vec<u8>, first: Option<u32>) -> Result<()>
     ensures text { OnOk result (text.new.items ≡ text.old.items ++ first_lines first) }
@@ -63,8 +67,6 @@ pub fn refusal_name(alloc: Global, notes: &[Note], refusal: Refusal) -> Result<V
     Ok(text)
 }
 
-// ---- task source
-
 fn source_text(alloc: Global, notes: &mut Vec<Note>, refusal: Refusal) -> Text
     ensures { IfOk result (TellsNotes notes.old.items) }
 {
@@ -92,13 +94,7 @@ fn names_lines(alloc: Global, config: &Config, lines: &[SourceLine], refusal: Re
     source_text(alloc, &mut notes, refusal)
 }
 
-// The lines of a text whose lines have no fault.
-fn names_read(
-    alloc: Global,
-    config: &Config,
-    src: &[u8],
-    refusal: Refusal,
-) -> Result<List<u8>, BuildError>
+fn names_read(alloc: Global, config: &Config, src: &[u8], refusal: Refusal) -> Text<BuildError>
     requires { length src.now < 4294967295 }
     ensures lines { IfOk result (AreFaultLines Src (ToldName config.now (source_lines src.now))) }
     ensures refused { IfErr result (ErrorIs (SourceLinesFault src.now)) }
@@ -152,7 +148,6 @@ fn push_notes(text: &mut Vec<u8>, notes: &[Note]) -> Result<()>
     Ok(())
 }
 
-// The first of these faults, as many as there are.
 fn first_notes<'n, 't>(notes: &'n [Note<'t>], count: usize) -> &'n [Note<'t>]
     ensures { result.now ≡ take count notes.now }
 {
@@ -188,7 +183,6 @@ fn parsed(alloc: Global, oil: &[u8]) -> Result<OilTree, BuildError>
     parse(alloc, tokens.as_slice())
 }
 
-// The lines of these faults in order, under the names that are known.
 fn named_text(alloc: Global, faults: &[Note], notes: &mut Vec<Note>, refusal: Refusal) -> Text
     requires { AreInOrder faults.now }
     ensures { IfOk result (TellsNamed faults.now) }
@@ -219,4 +213,99 @@ pub fn oil_text(alloc: Global, oil: &[u8], refusal: Refusal) -> Text
         Err(BuildError::Refused(_)) => Ok(List::from_vec(Vec::new(alloc))),
         Err(BuildError::Memory) => Err(NoMemory),
     }
+}
+
+// Of faults in order those at a place.
+fn place_group<'n, 't>(named: &'n [Note<'t>], place: u64) -> &'n [Note<'t>] {
+    let from = named.partition_point(|note| order(note) < place);
+    let to = named.partition_point(|note| order(note) <= place);
+    if from <= to && to <= named.len() {
+        &named[from..to]
+    } else {
+        &[]
+    }
+}
+
+fn is_same_place(fault: &Note, note: &Note) -> bool
+    ensures { result ≡ is_same_place fault.now note.now }
+{
+    order(note) == order(fault) && !note.follows
+}
+
+// Those of the group that stand where the fault does; the fault itself, where there are none.
+fn push_group<'t>(list: &mut Vec<Note<'t>>, fault: &Note<'t>, group: &[Note<'t>]) -> Result<()>
+    requires { fault.now.follows ≡ false }
+    ensures { OnOk result (AddsGroup fault.now list.old.items list.new.items) }
+{
+    let mut found = false;
+    for note in group {
+        if is_same_place(fault, note) {
+            push(list, *note)?;
+            found = true;
+        }
+    }
+    if found {
+        return Ok(());
+    }
+    push(list, *fault)
+}
+
+fn grouped<'t>(alloc: Global, faults: &[Note<'t>], named: &[Note<'t>]) -> Notes<'t>
+    requires { AreInOrder faults.now }
+    ensures { IfOk result (λ list. NamesAll faults.now list.items) }
+{
+    let mut list = Vec::new(alloc);
+    for fault in faults {
+        push_group(&mut list, fault, place_group(named, order(fault)))?;
+    }
+    Ok(list)
+}
+
+fn is_seen(seen: &IndexSet<(u64, &[u8])>, place: u64, name: &[u8]) -> bool
+    ensures { result ≡ list_any (is_key place name.now) seen.now.keys }
+{
+    seen.contains(&(place, name))
+}
+
+fn see<'t>(seen: &mut Seen<'t>, place: u64, name: &'t [u8]) -> Result<()>
+    ensures { OnOk result ((n : ℕ) (word : List ℕ) → list_any (is_key n word) seen.new.keys
+        ≡ (list_any (is_key n word) seen.old.keys || ((place == n) && bytes_eq name.now word))) }
+{
+    insert(seen, (place, name))
+}
+
+fn push_once<'t>(seen: &mut Seen<'t>, list: &mut Vec<Note<'t>>, note: &Note<'t>) -> Result<()>
+    requires { AreKeys seen.now.keys list.now.items }
+    ensures list { OnOk result (list.new.items ≡ apart_with list.old.items note.now) }
+    ensures keys { OnOk result (AreKeys seen.new.keys list.new.items) }
+{
+    let place = order(note);
+    if is_seen(seen, place, note.name) {
+        return Ok(());
+    }
+    see(seen, place, note.name)?;
+    push(list, *note)
+}
+
+fn first_of_each<'t>(alloc: Global, notes: &[Note<'t>]) -> Notes<'t>
+    ensures { IfOk result (λ list. list.items ≡ first_of_each notes.now) }
+{
+    let mut seen = IndexSet::new(alloc);
+    let mut list = Vec::new(alloc);
+    for note in notes {
+        push_once(&mut seen, &mut list, note)?;
+    }
+    Ok(list)
+}
+
+/// These faults, in order, under the names that others in order have there: each line once, at least one per fault.
+pub fn with_names<'t>(alloc: Global, faults: &[Note<'t>], named: &[Note<'t>]) -> Notes<'t>
+    requires { AreInOrder faults.now }
+    ensures names { IfOk result (λ list. NamesAll faults.now list.items) }
+    ensures sorted { IfOk result (λ list. IsNonDecreasingBy note_order list.items) }
+    ensures apart { IfOk result (λ list. StandApart list.items) }
+{
+    let mut list = grouped(alloc, faults, named)?;
+    put_in_order(&mut list)?;
+    first_of_each(alloc, list.as_slice())
 }

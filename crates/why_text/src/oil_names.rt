@@ -14,8 +14,7 @@ pub fn is_refusal_fault(note: &Note, refusal: Refusal) -> bool {
     note.line == refusal.line && note.code as u8 == refusal.code as u8
 }
 
-/// A fault of these parts.
-pub fn named_note<'t>(line: u32, code: Code, name: &'t [u8], first: Option<u32>) -> Note<'t> {
+fn named_note<'t>(line: u32, code: Code, name: &'t [u8], first: Option<u32>) -> Note<'t> {
     Note {
         line,
         code,
@@ -59,7 +58,7 @@ pub fn oil_names<'t>(
     let mut named = Vec::new(alloc);
     add_named(&mut named, notes)?;
     add_lacking(&mut named, objects)?;
-    add_priorities(alloc, &mut named, objects)?;
+    add_twice(alloc, &mut named, objects)?;
     named.sort_by_key(|note| (note.position.object as u64) << 32 | note.position.attribute as u64)?;
     add_first(&mut named, objects, refusal);
     Ok(named)
@@ -91,12 +90,7 @@ fn add_priority<'t>(
     push(firsts, note)
 }
 
-/// Each priority that an earlier task has, with that task.
-pub fn add_priorities<'t>(
-    alloc: Global,
-    named: &mut Vec<Note<'t>>,
-    objects: &'t [OilObject],
-) -> Result<()> {
+fn add_twice<'t>(alloc: Global, named: &mut Vec<Note<'t>>, objects: &'t [OilObject]) -> Result<()> {
     let mut numbers = IndexSet::new(alloc);
     let mut firsts = Vec::new(alloc);
     for object in objects {
@@ -128,7 +122,6 @@ fn add_missing<'t>(
     Ok(())
 }
 
-// What the block of an attribute of an alarm lacks.
 fn lacking_behind<'t>(named: &mut Vec<Note<'t>>, object: &OilObject, name: &[u8]) -> Result<()> {
     let attrs = object.attrs.items();
     let Some(head) = first_use(attrs, name) else {
@@ -144,8 +137,7 @@ fn lacking_behind<'t>(named: &mut Vec<Note<'t>>, object: &OilObject, name: &[u8]
     }
 }
 
-/// Each attribute that these objects lack.
-pub fn add_lacking<'t>(named: &mut Vec<Note<'t>>, objects: &[OilObject]) -> Result<()> {
+fn add_lacking<'t>(named: &mut Vec<Note<'t>>, objects: &[OilObject]) -> Result<()> {
     for object in objects {
         let line = object.line;
         let attrs = object.attrs.items();
@@ -163,38 +155,19 @@ pub fn add_lacking<'t>(named: &mut Vec<Note<'t>>, objects: &[OilObject]) -> Resu
     Ok(())
 }
 
-// The line of the first object of this kind and name.
-fn declaration_line(objects: &[OilObject], kind: &[u8], name: &[u8]) -> Option<u32> {
-    for object in objects {
-        if declares(object, kind, name) {
-            return Some(object.line);
-        }
-    }
-    None
+fn shares_names(object: &OilObject) -> bool {
+    is_of_kind(object, b"TASK") || is_of_kind(object, b"COUNTER")
 }
 
-// The line of the first of these objects that an object doubles: a task and a counter may not share a name either.
-fn doubled_line(front: &[OilObject], object: &OilObject) -> Option<u32> {
+// Whether an object doubles an earlier one: there is one OS, and a task and a counter may not share a name either.
+fn doubles(object: &OilObject, earlier: &OilObject) -> bool {
     if is_of_kind(object, b"OS") {
-        for earlier in front {
-            if is_of_kind(earlier, b"OS") {
-                return Some(earlier.line);
-            }
-        }
-        return None;
+        return is_of_kind(earlier, b"OS");
     }
-    let name = object.name.bytes();
-    let first = declaration_line(front, object.kind.bytes(), name);
-    if first.is_some() {
-        return first;
-    }
-    if is_of_kind(object, b"TASK") {
-        return declaration_line(front, b"COUNTER", name);
-    }
-    if is_of_kind(object, b"COUNTER") {
-        return declaration_line(front, b"TASK", name);
-    }
-    None
+    declares(earlier, object.kind.bytes(), object.name.bytes())
+        || (shares_names(object)
+            && shares_names(earlier)
+            && same(earlier.name.bytes(), object.name.bytes()))
 }
 
 // The line of the first use of an attribute's name in its block.
@@ -218,14 +191,19 @@ fn used_line(attrs: &[OilAttr], number: usize) -> Option<u32> {
     first
 }
 
-/// The line of what O9 at this position collides with; none of a resource that needs no declaration.
-pub fn earlier_line(objects: &[OilObject], position: Position) -> Option<u32> {
+// The line of what O9 at this position collides with; none of a resource that needs no declaration.
+fn earlier_line(objects: &[OilObject], position: Position) -> Option<u32> {
     if position.object >= objects.len() {
         return None;
     }
     let object = &objects[position.object];
-    if position.attribute == 0 {
-        return doubled_line(&objects[..position.object], object);
+    if position.attribute > 0 {
+        return used_line(object.attrs.items(), position.attribute - 1);
     }
-    used_line(object.attrs.items(), position.attribute - 1)
+    for earlier in &objects[..position.object] {
+        if doubles(object, earlier) {
+            return Some(earlier.line);
+        }
+    }
+    None
 }

@@ -22,14 +22,14 @@ shared_is shared tasks config_tasks yielding items bytes more is e f g =
     ∙ ap (λ (x : List Bool). most_stacked config_tasks x bytes) f
     ∙ ap (λ (x : List ℕ). most_stacked config_tasks items x) g
 
-pub bytes_of_tasks-requires-clause-small : goal.bytes_of_tasks-requires-clause-small
-bytes_of_tasks-requires-clause-small c =
+pub task_bytes-requires-clause-small : goal.task_bytes-requires-clause-small
+task_bytes-requires-clause-small c =
     let funcs = c.items-funcs.result.now in
     let able = callables c.args.verified.now.config c.args.verified.now.app funcs c.app.ensures.well_formed (c.items-funcs.ensures ∙ ap (λ (a : App). a.funcs) c.app.ensures.is) in
     subst (IsTableInLimit funcs) (sym c.deref.ensures.value) (table_small funcs (length funcs) c.in_ok-table.table.items able able.few c.in_ok-table.ensures)
 
-pub bytes_of_tasks-requires-clause-bodies : goal.bytes_of_tasks-requires-clause-bodies
-bytes_of_tasks-requires-clause-bodies c =
+pub task_bytes-requires-clause-bodies : goal.task_bytes-requires-clause-bodies
+task_bytes-requires-clause-bodies c =
     bodies_of c.args.verified.now.config c.args.verified.now.app c.items-tasks.result.now c.items-funcs.result.now c.app.ensures.well_formed
     (c.items-tasks.ensures ∙ ap (λ (x : Config). x.tasks) c.config.ensures.is) (c.items-funcs.ensures ∙ ap (λ (a : App). a.funcs) c.app.ensures.is)
 

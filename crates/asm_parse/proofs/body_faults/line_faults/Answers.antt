@@ -19,7 +19,7 @@ loop-n-preserved c =
     let front = take i xs in
     let scope = c.args.scope.now in
     let labels = c.args.labels.now in
-    let number = c.args.number in
+    let number = c.args.at in
     let names : take c.loop-n.count labels ≡ label_names front =
     ap (take c.loop-n.count) c.requires.labels ∙ ap (λ (n : ℕ). take n (label_names xs)) k.labels ∙ kept_front is_label name_of xs i in
     let place : i ≡ length front = sym (length-take-le i xs c.loop-n.auto.n-end) in

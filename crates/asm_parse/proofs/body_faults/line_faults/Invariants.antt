@@ -6,7 +6,7 @@ use Rattle.asm_parse.proofs.body_faults.line_faults.Given as goal
 
 abbrev pub invariant-loop-n : goal.invariant-loop-n
 invariant-loop-n l = record {
-  finds : Loop (LineNameFault l.scope l.labels l.fn.items l.number) l.lines l.n l.least;
+  finds : Loop (LineNameFault l.scope l.labels l.fn.items l.at) l.lines l.n l.least;
   labels : l.count ≡ count_by is_label (take l.n l.lines);
   items : l.items ≡ l.fn.items + count_by is_item (take l.n l.lines);
 }

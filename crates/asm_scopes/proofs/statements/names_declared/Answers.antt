@@ -11,9 +11,9 @@ loop-line-preserved c =
     let x = c.line-item.result in
     elim c.if-declares.branch [
       | then-declares+in_ok-names w ↦
-          let h = passes (declares c.args.declared) name_of xs i x c.loop-line.names c.loop-line-test.true c.line-item.is (search rules) c.loop-line.invariant in
+          let h = passes (declares c.args.kind) name_of xs i x c.loop-line.names c.loop-line-test.true c.line-item.is (search rules) c.loop-line.invariant in
           search rules
       | else-declares w ↦
-          let h = fails (declares c.args.declared) name_of xs i x c.loop-line.names c.loop-line-test.true c.line-item.is (search rules) c.loop-line.invariant in
+          let h = fails (declares c.args.kind) name_of xs i x c.loop-line.names c.loop-line-test.true c.line-item.is (search rules) c.loop-line.invariant in
           search rules
     ]

@@ -52,12 +52,12 @@ returns-in_err-closed-clause-none c =
     let further : drop (input_count t + 1) words ≡ option_to_list (further_word t) ++ behind =
     sym front ∙ c.in_ok-rest.ensures.some ∙ ap (λ f. option_to_list f ++ behind) (ap (λ (r : ToolRow). r.further) c.row-row.ensures.is) in
     let number = c.in_ok-counted.ensures.some in
-    let rest : List (List ℕ) = words_of c.in_ok-counted.counted.rest.now in
-    let N : Option Limit → Type 0 = λ limit. AreCounts limit c.in_ok-counted.counted.counts in
+    let rest : List (List ℕ) = words_of c.in_ok-counted.counted.1.now in
+    let N : Option Limit → Type 0 = λ limit. AreCounts limit c.in_ok-counted.counted.0 in
     let none : (behind : List (List ℕ)) → rest ≡ option_to_list (closing_word t) ++ behind → ⊥ =
     λ closed e. c.in_err-closed.ensures.none closed (e ∙ ap (λ f. option_to_list f ++ closed) (sym c.closing_word.ensures)) in
     if-none c.from_residual-in_err-closed.result (NoTool words)
-    (without-closing words t c.in_ok-counted.counted.counts behind rest begins (subst N (ap (λ (r : ToolRow). r.limit) c.row-row.ensures.is) number.1) further number.0 none)
+    (without-closing words t c.in_ok-counted.counted.0 behind rest begins (subst N (ap (λ (r : ToolRow). r.limit) c.row-row.ensures.is) number.1) further number.0 none)
 
 pub returns-in_err-output-clause-none : goal.returns-in_err-output-clause-none
 returns-in_err-output-clause-none c =
@@ -71,15 +71,15 @@ returns-in_err-output-clause-none c =
     let further : drop (input_count t + 1) words ≡ option_to_list (further_word t) ++ behind =
     sym front ∙ c.in_ok-rest.ensures.some ∙ ap (λ f. option_to_list f ++ behind) (ap (λ (r : ToolRow). r.further) c.row-row.ensures.is) in
     let number = c.in_ok-counted.ensures.some in
-    let rest : List (List ℕ) = words_of c.in_ok-counted.counted.rest.now in
-    let N : Option Limit → Type 0 = λ limit. AreCounts limit c.in_ok-counted.counted.counts in
+    let rest : List (List ℕ) = words_of c.in_ok-counted.counted.1.now in
+    let N : Option Limit → Type 0 = λ limit. AreCounts limit c.in_ok-counted.counted.0 in
     let closed : List (List ℕ) = words_of c.in_ok-closed.closed.now in
     let closing : rest ≡ option_to_list (closing_word t) ++ closed =
     c.in_ok-closed.ensures.some ∙ ap (λ f. option_to_list f ++ closed) c.closing_word.ensures in
     let none : (o : Option (List ℕ)) → IsOutput (writes_file t) o → closed ≡ output_words o → ⊥ =
     λ o is e. c.in_err-output.ensures.none o (subst (λ w. IsOutput w o) (sym (ap (λ (r : ToolRow). r.writes) c.row-row.ensures.is)) is) e in
     if-none c.from_residual-in_err-output.result (NoTool words)
-    (without-output words t c.in_ok-counted.counted.counts behind rest closed begins (subst N (ap (λ (r : ToolRow). r.limit) c.row-row.ensures.is) number.1) further number.0 closing none)
+    (without-output words t c.in_ok-counted.counted.0 behind rest closed begins (subst N (ap (λ (r : ToolRow). r.limit) c.row-row.ensures.is) number.1) further number.0 closing none)
 
 pub returns-clause-some : goal.returns-clause-some
 returns-clause-some c =
@@ -93,14 +93,14 @@ returns-clause-some c =
     let further : drop (input_count t + 1) words ≡ option_to_list (further_word t) ++ behind =
     sym front ∙ c.in_ok-rest.ensures.some ∙ ap (λ f. option_to_list f ++ behind) (ap (λ (r : ToolRow). r.further) c.row-row.ensures.is) in
     let number = c.in_ok-counted.ensures.some in
-    let rest : List (List ℕ) = words_of c.in_ok-counted.counted.rest.now in
-    let N : Option Limit → Type 0 = λ limit. AreCounts limit c.in_ok-counted.counted.counts in
+    let rest : List (List ℕ) = words_of c.in_ok-counted.counted.1.now in
+    let N : Option Limit → Type 0 = λ limit. AreCounts limit c.in_ok-counted.counted.0 in
     let closed : List (List ℕ) = words_of c.in_ok-closed.closed.now in
     let closing : rest ≡ option_to_list (closing_word t) ++ closed =
     c.in_ok-closed.ensures.some ∙ ap (λ f. option_to_list f ++ closed) c.closing_word.ensures in
     let written = c.in_ok-output.ensures.some in
     let output : Option (List ℕ) = option_map (λ name. name.now) c.in_ok-output.output in
     let long : c.row-row.result.inputs + 1 ≤ length c.args.words.now = search rules in
-    is-tool c.args.words.now t c.row-row.result.inputs c.in_ok-counted.counted.counts output behind rest closed begins
+    is-tool c.args.words.now t c.row-row.result.inputs c.in_ok-counted.counted.0 output behind rest closed begins
     (ap (λ (r : ToolRow). r.inputs) c.row-row.ensures.is) long further number.0 closing written.0 (subst N (ap (λ (r : ToolRow). r.limit) c.row-row.ensures.is) number.1)
     (subst (λ w. IsOutput w output) (ap (λ (r : ToolRow). r.writes) c.row-row.ensures.is) written.1)

@@ -1,5 +1,5 @@
 use Rattle.std.proofs.lemmas.Result.{err_from_is_err_and}
-use Rattle.trace_text.specs.declared.summary.Form.TheVariants as form
+use Rattle.trace_text.specs.declared.events.Form.TheVariants as form
 use Rattle.core_commands.specs.ImageFiles.{end_line}
 use Rattle.sloth_runner.specs.Runner.{image_of, given_arrivals, run_text, run_end}
 use Rattle.core_commands.proofs.ImageCauses.{took-both, broke-first, broke-second}

@@ -13,8 +13,8 @@ returns-in-Some-clause-count g c =
     let from : ℕ = c.saturating_sub-from.result in
     let to : ℕ = c.loop-to.to in
     let below : from ≤ to = omega (arith, c.saturating_sub-from.ensures) in
-    let last = c.last_between.ensures.last ∙ ap (λ (x : Run). last_hit (ends_back x t) (to - from) from) c.loop-to.invariant.run in
-    let all = window-of (ends_back r t) from to c.last_between.result below last in
+    let last = c.last_hit.ensures.last ∙ ap (λ (x : Run). last_hit (ends_back x t) (to - from) from) c.loop-to.invariant.run in
+    let all = window-of (ends_back r t) from to c.last_hit.result below last in
     sym (all ∙ ap (λ (o : Option ℕ). unwrap_or o (greatest_below (ends_back r t) from)) c.in-Some.is) ∙ c.loop-to.invariant.greatest
 
 pub loop-to-preserved : goal.loop-to-preserved
@@ -24,10 +24,10 @@ loop-to-preserved g c =
     let from : ℕ = c.saturating_sub-from.result in
     let to : ℕ = c.loop-to.to in
     let below : from ≤ to = omega (arith, c.saturating_sub-from.ensures) in
-    let last = c.last_between.ensures.last ∙ ap (λ (x : Run). last_hit (ends_back x t) (to - from) from) c.loop-to.invariant.run in
-    let all = window-of (ends_back r t) from to c.last_between.result below last in
+    let last = c.last_hit.ensures.last ∙ ap (λ (x : Run). last_hit (ends_back x t) (to - from) from) c.loop-to.invariant.run in
+    let all = window-of (ends_back r t) from to c.last_hit.result below last in
     record {
-      run = c.last_between.ensures.run ∙ c.loop-to.invariant.run;
+      run = c.last_hit.ensures.run ∙ c.loop-to.invariant.run;
       within = omega (arith, below, c.loop-to.invariant.within);
       wide = omega (arith, c.saturating_mul-width.ensures, c.loop-to.invariant.wide);
       greatest = sym (all ∙ ap (λ (o : Option ℕ). unwrap_or o (greatest_below (ends_back r t) from)) c.in_default.is) ∙ c.loop-to.invariant.greatest;

@@ -6,7 +6,7 @@ use Rattle.elf_image.proofs.read.read_contents.Goals as goal
 
 pub returns-clause-read : goal.returns-clause-read
 returns-clause-read c =
-    let o = c.args.outline in
+    let o = c.args.all in
     let right = c.in_ok-marks.ensures.read in
     let are = sym c.from_vec-5.ensures in
     record {

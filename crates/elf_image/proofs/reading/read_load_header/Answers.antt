@@ -9,8 +9,8 @@ returns-then-not-is_header-clause-failed c =
     rw c.into.ensures (
       c.requires,
       λ m has.
-          let same : c.u32_at-size.result ≡ m = load-is c.args.bytes.now c.u32_at-size.result m _ c.u32_at-size.ensures.stands c.u32_at-size.type_inv has in
-          let own : HasLoadHeader c.args.bytes.now c.u32_at-size.result = subst (λ (k : ℕ). HasLoadHeader c.args.bytes.now k) (sym same) has in
+          let same : c.read_u32-size.result ≡ m = load-is c.args.bytes.now c.read_u32-size.result m _ c.read_u32-size.ensures.stands c.read_u32-size.type_inv has in
+          let own : HasLoadHeader c.args.bytes.now c.read_u32-size.result = subst (λ (k : ℕ). HasLoadHeader c.args.bytes.now k) (sym same) has in
           true≢false (sym (c.in_ok-is_header.ensures.1 own.header) ∙ c.if-not-is_header.true),
     )
 
@@ -19,8 +19,8 @@ returns-then-not-is_memory_size-clause-failed c =
     rw c.into-then-not-is_memory_size.ensures (
       c.requires,
       λ m has.
-          let same : c.u32_at-size.result ≡ m = load-is c.args.bytes.now c.u32_at-size.result m _ c.u32_at-size.ensures.stands c.u32_at-size.type_inv has in
-          let own : HasLoadHeader c.args.bytes.now c.u32_at-size.result = subst (λ (k : ℕ). HasLoadHeader c.args.bytes.now k) (sym same) has in
+          let same : c.read_u32-size.result ≡ m = load-is c.args.bytes.now c.read_u32-size.result m _ c.read_u32-size.ensures.stands c.read_u32-size.type_inv has in
+          let own : HasLoadHeader c.args.bytes.now c.read_u32-size.result = subst (λ (k : ℕ). HasLoadHeader c.args.bytes.now k) (sym same) has in
           true≢false (sym (c.is_memory_size.ensures.1 own.memory) ∙ c.if-not-is_memory_size.true),
     )
 

@@ -10,8 +10,8 @@ returns-then-not-is_header-clause-failed c =
       c.args.size,
       c.requires,
       λ m has.
-          let same : c.u32_at-note.result ≡ m = note-is c.args.bytes.now c.args.size c.u32_at-note.result m _ c.u32_at-note.ensures.stands c.u32_at-note.type_inv has in
-          let own : HasNoteHeader c.args.bytes.now c.args.size c.u32_at-note.result = subst (λ (k : ℕ). HasNoteHeader c.args.bytes.now c.args.size k) (sym same) has in
+          let same : c.read_u32-note.result ≡ m = note-is c.args.bytes.now c.args.size c.read_u32-note.result m _ c.read_u32-note.ensures.stands c.read_u32-note.type_inv has in
+          let own : HasNoteHeader c.args.bytes.now c.args.size c.read_u32-note.result = subst (λ (k : ℕ). HasNoteHeader c.args.bytes.now c.args.size k) (sym same) has in
           true≢false (sym (c.in_ok-is_header.ensures.1 own.header) ∙ c.if-not-is_header.true),
     )
 
@@ -21,8 +21,8 @@ returns-then-not-is_note_size-clause-failed c =
       c.args.size,
       c.requires,
       λ m has.
-          let same : c.u32_at-note.result ≡ m = note-is c.args.bytes.now c.args.size c.u32_at-note.result m _ c.u32_at-note.ensures.stands c.u32_at-note.type_inv has in
-          let own : HasNoteHeader c.args.bytes.now c.args.size c.u32_at-note.result = subst (λ (k : ℕ). HasNoteHeader c.args.bytes.now c.args.size k) (sym same) has in
+          let same : c.read_u32-note.result ≡ m = note-is c.args.bytes.now c.args.size c.read_u32-note.result m _ c.read_u32-note.ensures.stands c.read_u32-note.type_inv has in
+          let own : HasNoteHeader c.args.bytes.now c.args.size c.read_u32-note.result = subst (λ (k : ℕ). HasNoteHeader c.args.bytes.now c.args.size k) (sym same) has in
           true≢false (sym (c.is_note_size.ensures.1 own.note_size) ∙ c.if-not-is_note_size.true),
     )
 

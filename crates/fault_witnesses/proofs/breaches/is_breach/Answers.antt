@@ -16,35 +16,35 @@ plain_test-requires-clause-inside c = subst (λ (f : Func). c.args.item < length
 pub plain_test-requires-clause-labels : goal.plain_test-requires-clause-labels
 plain_test-requires-clause-labels c =
     subst (λ (f : Func). HasBodyLabel f (item_of f c.args.item).op) (sym c.function-func.ensures)
-    (all_lead c.args.config.now c.args.app.now c.args.body c.requires.in_range c.requires.known c.args.item c.requires.inside)
+    (all_lead c.args.judged.now.config.now c.args.judged.now.app.now c.args.body c.requires.in_range c.requires.known c.args.item c.requires.inside)
 
 pub plain_test-requires-clause-operands : goal.plain_test-requires-clause-operands
 plain_test-requires-clause-operands c =
-    subst (λ (f : Func). OperandsOf c.args.config.now (item_of f c.args.item).op) (sym c.function-func.ensures)
-    (operands_are c.args.config.now c.args.app.now c.args.body c.requires.in_range c.requires.known c.args.item c.requires.inside)
+    subst (λ (f : Func). OperandsOf c.args.judged.now.config.now (item_of f c.args.item).op) (sym c.function-func.ensures)
+    (operands_are c.args.judged.now.config.now c.args.judged.now.app.now c.args.body c.requires.in_range c.requires.known c.args.item c.requires.inside)
 
 pub returns-then-plain_test : goal.returns-then-plain_test
 returns-then-plain_test c = λ h.
-    plain_broken c.args.config.now c.args.app.now c.from-users.result c.args.body c.args.item c.args.code c.requires.in_range (search rules)
-    (subst (λ (f : Func). plain_test c.args.config.now c.args.app.now c.from-users.result f c.args.item c.args.code ≡ true) c.function-func.ensures
+    plain_broken c.args.judged.now.config.now c.args.judged.now.app.now c.from-users.result c.args.body c.args.item c.args.judged.now.refusal.code c.requires.in_range (search rules)
+    (subst (λ (f : Func). plain_test c.args.judged.now.config.now c.args.judged.now.app.now c.from-users.result f c.args.item c.args.judged.now.refusal.code ≡ true) c.function-func.ensures
     (sym c.plain_test.ensures ∙ c.if-plain_test.true))
 
 pub is_unreached-requires-clause-labels : goal.is_unreached-requires-clause-labels
 is_unreached-requires-clause-labels c =
     subst (λ (f : Func). (i : ℕ) → i < length f.items → HasBodyLabel f (item_of f i).op) (sym c.function-func.ensures)
-    (λ i l. all_lead c.args.config.now c.args.app.now c.args.body c.requires.in_range c.requires.known i l)
+    (λ i l. all_lead c.args.judged.now.config.now c.args.judged.now.app.now c.args.body c.requires.in_range c.requires.known i l)
 
 pub is_unreached-requires-clause-inside : goal.is_unreached-requires-clause-inside
 is_unreached-requires-clause-inside c = subst (λ (f : Func). c.args.item < length f.items) (sym c.function-func.ensures) c.requires.inside
 
 pub returns-then-is_path_code : goal.returns-then-is_path_code
 returns-then-is_path_code c = λ h.
-    subst (IsBreach c.args.config.now c.args.app.now c.args.body c.args.item) (sym (c.is_path_code.ensures c.if-is_path_code.true))
+    subst (IsBreach c.args.judged.now.config.now c.args.judged.now.app.now c.args.body c.args.item) (sym (c.is_path_code.ensures c.if-is_path_code.true))
     (is_unreached (subst (λ (f : Func). IsUnreached f c.args.item) c.function-func.ensures (c.in_ok-unreached.ensures h)))
 
 pub held_list-requires-clause-placed : goal.held_list-requires-clause-placed
 held_list-requires-clause-placed c =
-    subst ArePlaced (sym c.function-func.ensures) (are_placed c.args.config.now c.args.app.now c.args.body c.requires.in_range c.requires.known)
+    subst ArePlaced (sym c.function-func.ensures) (are_placed c.args.judged.now.config.now c.args.judged.now.app.now c.args.body c.requires.in_range c.requires.known)
 
 pub held_list-requires-clause-inside : goal.held_list-requires-clause-inside
 held_list-requires-clause-inside c = subst (λ (f : Func). c.args.item < length f.items) (sym c.function-func.ensures) c.requires.inside
@@ -55,14 +55,14 @@ jumps_otherwise-requires-clause-inside c = subst (λ (f : Func). c.args.item < l
 pub jumps_otherwise-requires-clause-labels : goal.jumps_otherwise-requires-clause-labels
 jumps_otherwise-requires-clause-labels c =
     subst (λ (f : Func). HasBodyLabel f (item_of f c.args.item).op) (sym c.function-func.ensures)
-    (all_lead c.args.config.now c.args.app.now c.args.body c.requires.in_range c.requires.known c.args.item c.requires.inside)
+    (all_lead c.args.judged.now.config.now c.args.judged.now.app.now c.args.body c.requires.in_range c.requires.known c.args.item c.requires.inside)
 
 pub returns-then-is_label_code : goal.returns-then-is_label_code
 returns-then-is_label_code c = λ h.
-    let app = c.args.app.now in
+    let app = c.args.judged.now.app.now in
     let b = c.args.body in
     let i = c.args.item in
-    subst (IsBreach c.args.config.now app b i) (sym (c.is_label_code.ensures c.if-is_label_code.true))
+    subst (IsBreach c.args.judged.now.config.now app b i) (sym (c.is_label_code.ensures c.if-is_label_code.true))
     (is_other_list_jump
     (subst (λ (f : Func). IsOtherListJump f (held_list_at f i) (item_of f i).op) c.function-func.ensures
     (subst (λ (held : List ℕ). IsOtherListJump c.function-func.result.now held (item_of c.function-func.result.now i).op) (c.deref.ensures.value ∙ c.in_ok-held.ensures)
@@ -73,11 +73,11 @@ held_test-requires c = subst (λ (f : Func). c.args.item < length f.items) (sym 
 
 pub returns : goal.returns
 returns c = λ h.
-    let app = c.args.app.now in
+    let app = c.args.judged.now.app.now in
     let b = c.args.body in
     let i = c.args.item in
-    held_broken c.args.config.now app c.args.ranks.now b i c.args.code c.requires.in_range c.requires.belong
-    (op_is c.args.config.now app b c.requires.in_range c.requires.known i c.requires.inside)
-    (subst (λ (f : Func). held_test c.args.ranks.now f (held_list_at f i) i c.args.code ≡ true) c.function-func.ensures
-    (subst (λ (held : List ℕ). held_test c.args.ranks.now c.function-func.result.now held i c.args.code ≡ true) (c.deref-2.ensures.value ∙ c.in_ok-held.ensures)
+    held_broken c.args.judged.now.config.now app c.args.judged.now.ranks.now b i c.args.judged.now.refusal.code c.requires.in_range c.requires.belong
+    (op_is c.args.judged.now.config.now app b c.requires.in_range c.requires.known i c.requires.inside)
+    (subst (λ (f : Func). held_test c.args.judged.now.ranks.now f (held_list_at f i) i c.args.judged.now.refusal.code ≡ true) c.function-func.ensures
+    (subst (λ (held : List ℕ). held_test c.args.judged.now.ranks.now c.function-func.result.now held i c.args.judged.now.refusal.code ≡ true) (c.deref-2.ensures.value ∙ c.in_ok-held.ensures)
     (sym c.held_test.ensures ∙ h)))

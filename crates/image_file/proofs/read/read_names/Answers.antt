@@ -2,7 +2,7 @@ use Rattle.std.proofs.lemmas.Result.{err_from_is_err_and}
 use Rattle.image_file.proofs.Failing.{missing}
 use Rattle.image_file.proofs.Standing.{no_names}
 use Rattle.std.proofs.Common.{arith}
-use Rattle.image_file.specs.declared.fault.ImageFault.TheVariants as fault
+use Rattle.image_file.specs.declared.read.ImageFault.TheVariants as fault
 use Rattle.image_file.proofs.read.read_names.Goals as goal
 
 pub returns-in_err-next-clause-failed : goal.returns-in_err-next-clause-failed

@@ -3,7 +3,7 @@ use Rattle.std.proofs.lemmas.Result.{err_from_is_err_and, IfErr-weaker}
 use Rattle.image_file.specs.Reading.{HasSizes, IsPartsError}
 use Rattle.image_file.proofs.Failing.{missing, parts_fail}
 use Rattle.image_file.proofs.Parted.{sizes_of}
-use Rattle.image_file.specs.declared.fault.ImageFault.TheVariants as fault
+use Rattle.image_file.specs.declared.read.ImageFault.TheVariants as fault
 use Rattle.image_file.proofs.read.read_outline.Goals as goal
 
 pub returns-in_err-sizes-clause-failed : goal.returns-in_err-sizes-clause-failed

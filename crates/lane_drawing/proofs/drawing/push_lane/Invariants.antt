@@ -5,4 +5,4 @@ use Rattle.lane_drawing.proofs.drawing.push_lane.Given as goal
 
 abbrev pub invariant-loop-bar : goal.invariant-loop-bar
 invariant-loop-bar l =
-    l.text.items ≡ l.fn.text.items ++ (lane_line l.scale l.name l.middle ++ flat_map (bar_line l.scale l.name l.middle []) (take l.bar-index l.bars))
+    l.to.items ≡ l.fn.to.items ++ (lane_line l.scale l.name l.axis ++ flat_map (bar_line l.scale l.name l.axis []) (take l.bar-index l.bars))

@@ -9,7 +9,7 @@ pub returns : goal.returns
 unfolding arrival_line
 returns c =
     twelve (codes "<path class=\"") (arrival_class c.args.lost) (codes "\" d=\"M") (pixels (place c.args.scale c.args.arrival.now.at)) (codes " ")
-    (decimal (c.args.middle - 13)) (codes "l-4 -6h8z\"><title>") c.args.name.now (codes " arrives at ") (decimal c.args.arrival.now.at)
+    (decimal (c.args.axis - 13)) (codes "l-4 -6h8z\"><title>") c.args.name.now (codes " arrives at ") (decimal c.args.arrival.now.at)
     (arrival_end c.args.lost) (codes "</title></path>\n") _ _ _ _ _ _ _ _ _ _ _ _
     (c.push.ensures.bytes ∙ ap (λ t. t ++ codes "<path class=\"") c.new-line.ensures)
     (c.push-2.ensures.bytes ∙ ap (λ x. c.push.new.self ++ x) c.arrival_class.ensures.is)

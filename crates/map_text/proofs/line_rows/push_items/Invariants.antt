@@ -4,4 +4,4 @@ use Rattle.map_text.proofs.line_rows.push_items.Given as goal
 
 abbrev pub invariant-loop-k : goal.invariant-loop-k
 invariant-loop-k l =
-    l.rows.items ++ item_rows l.places l.end (l.number + l.k) (drop l.k l.items) ≡ l.fn.rows.items ++ item_rows l.places l.end l.number l.items
+    l.to.items ++ item_rows l.spots l.end (l.n + l.k) (drop l.k l.all) ≡ l.fn.to.items ++ item_rows l.spots l.end l.n l.all

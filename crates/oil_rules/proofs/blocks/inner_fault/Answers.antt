@@ -21,7 +21,7 @@ returns c =
     let left = is_unlisted c.args.block.now.objects c.args.place c.args.block.now.inner a in
     let second = case_found Oil (is_second 1 row before a) c.is_second.result a.line O9 c.fault_if-second.result c.fault_if-second.ensures
     (c.is_second.ensures ∙ ap (λ depth. is_second depth c.attribute_of-row.result before a) c.requires ∙ ap (λ (r : Option Attribute). is_second 1 r before a) is_row) in
-    let unlisted = case_found Oil left c.is_unlisted-unlisted.result a.line O10 c.fault_if-unlisted.result c.fault_if-unlisted.ensures c.is_unlisted-unlisted.ensures in
+    let unlisted = case_found Oil left c.is_unlisted.result a.line O10 c.fault_if-unlisted.result c.fault_if-unlisted.ensures c.is_unlisted.ensures in
     let beyond = case_found Oil (is_beyond limits row a) c.is_beyond.result a.line O12 c.fault_if-beyond.result c.fault_if-beyond.ensures
     (c.is_beyond.ensures ∙ ap (λ (r : Option Attribute). is_beyond limits r a) is_row) in
     both_are (OilCase (is_second 1 row before a) a.line O9) (λ r. OilCase left a.line O10 r ⊎ OilCase (is_beyond limits row a) a.line O12 r)

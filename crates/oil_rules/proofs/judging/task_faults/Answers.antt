@@ -1,17 +1,17 @@
-use Rattle.std.proofs.Common.{◌∙◌, ap, sym, subst, take, ◌+◌}
+use Rattle.std.proofs.Common.{◌≡◌, ◌∙◌, ap, sym, subst, take, ◌+◌, true, List}
 use Rattle.std.specs.Prelude.{◌||◌, codes}
 use Rattle.std.proofs.lemmas.List.Folds.{list_any_more}
-use Rattle.sloth_base.specs.Search.{IsSearchResult}
-use Rattle.sloth_base.proofs.Kept.{loop_more, loop_end}
+use Rattle.sloth_base.specs.Search.{IsSearchResult, Somewhere}
+use Rattle.sloth_base.proofs.Kept.{loop_more, loop_end, finds_if}
 use Rattle.oil_parse.specs.declared.tree.OilAttr.{OilAttr}
-use Rattle.oil_table.specs.Objects.{is_use, is_used}
+use Rattle.oil_table.specs.Objects.{is_use, is_used, is_of_kind}
 use Rattle.oil_rules.specs.References.{ReferenceContext}
 use Rattle.oil_rules.specs.TaskFaults.{TaskFault}
 use Rattle.oil_rules.proofs.judging.task_faults.Goals as goal
 
 pub loop-number-preserved : goal.loop-number-preserved
 loop-number-preserved c =
-    let attrs = c.args.attrs.now in
+    let attrs = c.items-attrs.result.now in
     let events = c.args.events.now in
     let front = c.args.front.now in
     let x = c.index-attrs-number.result in
@@ -29,5 +29,9 @@ loop-number-preserved c =
 
 pub returns : goal.returns
 returns c =
-    loop_end (TaskFault c.args.events.now c.args.front.now) c.args.attrs.now c.loop-number.number c.loop-number.least c.loop-number-test.false
-    c.loop-number.invariant.finds
+    let o = c.args.object.now in
+    let P = TaskFault c.args.events.now c.args.front.now in
+    finds_if (Somewhere P o.attrs) (is_of_kind (codes "TASK") o) c.loop-number.least
+    (λ t. subst (λ (x : List OilAttr). IsSearchResult (Somewhere P x) c.loop-number.least) c.items-attrs.ensures
+    (loop_end P c.items-attrs.result.now c.loop-number.number c.loop-number.least c.loop-number-test.false c.loop-number.invariant.finds))
+    (λ f. let t : is_of_kind (codes "TASK") o ≡ true = sym c.is_of_kind.ensures ∙ c.if-not-is_of_kind.false in cc)

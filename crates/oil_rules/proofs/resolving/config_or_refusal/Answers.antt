@@ -21,7 +21,7 @@ use Rattle.oil_rules.proofs.resolving.config_or_refusal.Goals as goal
 pub declared_config-requires-clause-few : goal.declared_config-requires-clause-few
 declared_config-requires-clause-few c =
     let tree = c.args.tree.now in
-    subst (λ (x : List OilObject). length (resource_names x) ≤ resource_limit) (sym c.items.ensures)
+    subst (λ (x : List OilObject). length (resource_names x) ≤ resource_limit) (sym c.items-objects.ensures)
     (few_names tree (subst (λ (o : Option Refusal). IsSearchResult (ModelFault tree) o) c.in_default.is c.in_ok-refusal.ensures))
 
 pub declared_config-requires-clause-few_tasks : goal.declared_config-requires-clause-few_tasks
@@ -30,7 +30,7 @@ declared_config-requires-clause-few_tasks c =
     let none = subst (λ (o : Option Refusal). IsSearchResult (ModelFault tree) o) c.in_default.is c.in_ok-refusal.ensures in
     let n = number_of_names tree none (codes "TASK") in
     let few = few_tasks tree none in
-    subst (λ (x : List OilObject). length (names_of (codes "TASK") x) ≤ line_count) (sym c.items.ensures) (omega (arith, n, few))
+    subst (λ (x : List OilObject). length (names_of (codes "TASK") x) ≤ line_count) (sym c.items-objects.ensures) (omega (arith, n, few))
 
 pub declared_config-requires-clause-few_counters : goal.declared_config-requires-clause-few_counters
 declared_config-requires-clause-few_counters c =
@@ -38,7 +38,7 @@ declared_config-requires-clause-few_counters c =
     let none = subst (λ (o : Option Refusal). IsSearchResult (ModelFault tree) o) c.in_default.is c.in_ok-refusal.ensures in
     let n = number_of_names tree none (codes "COUNTER") in
     let few = few_counters tree none in
-    subst (λ (x : List OilObject). length (names_of (codes "COUNTER") x) ≤ line_count) (sym c.items.ensures) (omega (arith, n, few))
+    subst (λ (x : List OilObject). length (names_of (codes "COUNTER") x) ≤ line_count) (sym c.items-objects.ensures) (omega (arith, n, few))
 
 pub returns-clause-in_range : goal.returns-clause-in_range
 returns-clause-in_range c =
@@ -46,4 +46,4 @@ returns-clause-in_range c =
     let none = subst (λ (o : Option Refusal). IsSearchResult (ModelFault tree) o) c.in_default.is c.in_ok-refusal.ensures in
     let fit = subst (λ (x : List EventDecl). All (λ (e : EventDecl). e.mask < 4294967296) x) c.requires.events c.requires.fit in
     let words = All-weaker IsObjectOfWords (λ (o : OilObject). IsWord o.name) (λ (o : OilObject) w. w.name) tree.objects (tree_words c.requires.tree.text tree c.requires.tree.has_tree) in
-    subst InRange (sym (subst (λ (x : List OilObject). c.in_ok-config.config ≡ config_of x) c.items.ensures c.in_ok-config.ensures)) (in_range tree none words fit)
+    subst InRange (sym (subst (λ (x : List OilObject). c.in_ok-config.config ≡ config_of x) c.items-objects.ensures c.in_ok-config.ensures)) (in_range tree none words fit)

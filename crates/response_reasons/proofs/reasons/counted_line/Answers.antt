@@ -1,6 +1,6 @@
 use Rattle.std.proofs.Common.{◌∙◌, List, ap, subst}
 use Rattle.std.proofs.lemmas.Result.{IfOk-weaker}
-use Rattle.bound_rules.specs.declared.weights.BodyWeights.{BodyWeights}
+use Rattle.bound_rules.specs.declared.bound.BodyWeights.{BodyWeights}
 use Rattle.run_windows.specs.RunWindows.{IsLeastOf}
 use Rattle.walk_sums.specs.Counted.{counted_weights}
 use Rattle.response_reasons.specs.Reasons.{HasRoundLoop, HasCountedLoop}

@@ -2,7 +2,7 @@ use Rattle.std.proofs.Common.{◌∙◌, inl, inr, refl, sym}
 use Rattle.std.proofs.lemmas.Result.{IfOk-weaker}
 use Rattle.std.proofs.lemmas.Bool.Decides.{not_from_Decides}
 use Rattle.run_windows.specs.RunWindows.{IsLeastOf}
-use Rattle.walk_sums.specs.declared.kinds.Kind.TheVariants as kinds
+use Rattle.walk_sums.specs.declared.levels.Kind.TheVariants as kinds
 use Rattle.response_reasons.specs.Loops.{HasTurnLoop}
 use Rattle.response_reasons.specs.Reasons.{HasRoundLoop}
 use Rattle.response_reasons.proofs.RoundLoops.{of_rounds, of_turns}

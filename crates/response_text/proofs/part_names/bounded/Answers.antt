@@ -1,7 +1,7 @@
 use Rattle.std.proofs.Common.{◌≡◌, ◌∙◌, ◌≤◌, ℕ, Bool, List, length, get_or, ap, subst, arith}
 use Rattle.call_graph.proofs.Growing.{held_more}
 use Rattle.load_text.specs.Loads.{work}
-use Rattle.walk_sums.specs.declared.tasks.RoundSums.{RoundSums}
+use Rattle.walk_sums.specs.declared.sections.RoundSums.{RoundSums}
 use Rattle.run_costs.specs.CostsOf.{AreEach}
 use Rattle.run_costs.specs.Makings.{AreRoundSums}
 use Rattle.run_costs.specs.Tables.{no_sums}

@@ -1,7 +1,7 @@
 use Rattle.std.proofs.Common.{◌≡◌, ◌∙◌, ℕ, ◌+◌, List, length, get_or, ap, sym, subst, arith}
 use Rattle.sloth_base.specs.declared.app.Func.{Func}
 use Rattle.sloth_base.specs.Named.{function}
-use Rattle.bound_rules.specs.declared.weights.BodyWeights.{BodyWeights}
+use Rattle.bound_rules.specs.declared.bound.BodyWeights.{BodyWeights}
 use Rattle.bound_rules.specs.Weights.{no_weights}
 use Rattle.run_windows.specs.RunWindows.{IsLeastOf}
 use Rattle.run_windows.proofs.Leasts.{Below, none_below, one_below_more}

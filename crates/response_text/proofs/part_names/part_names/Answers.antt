@@ -1,7 +1,7 @@
 use Rattle.std.proofs.Common.{List, sym, subst}
 use Rattle.sloth_base.specs.declared.config.Config.{Config}
 use Rattle.sloth_base.specs.declared.app.App.{App}
-use Rattle.bound_rules.specs.declared.weights.BodyWeights.{BodyWeights}
+use Rattle.bound_rules.specs.declared.bound.BodyWeights.{BodyWeights}
 use Rattle.sim_induction.specs.Items.{AreLengths}
 use Rattle.walk_sums.specs.Weights.{AreWeights}
 use Rattle.run_windows.specs.RunWindows.{IsLeastOf}

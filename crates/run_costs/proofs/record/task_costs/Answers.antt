@@ -4,7 +4,7 @@ use Rattle.sloth_base.specs.Named.{declaration}
 use Rattle.sloth_base.specs.declared.config.TaskDecl.{TaskDecl}
 use Rattle.sloth_base.specs.declared.service.Service.TheVariants as service
 use Rattle.walk_sums.specs.Rounds.{IsClean}
-use Rattle.walk_sums.specs.declared.tasks.RoundSums.{RoundSums}
+use Rattle.walk_sums.specs.declared.sections.RoundSums.{RoundSums}
 use Rattle.walk_sums.proofs.Bodily.{facts_of}
 use Rattle.run_costs.specs.Rounds.{AreRounds, round_cost}
 use Rattle.run_costs.specs.RunCosts.{round_entry, has_raised_waits}
@@ -33,9 +33,9 @@ returns c =
       rounds = subst (λ (b : Bool). AreRounds w.app b (declaration w.config task).extended task c.args.weights.now told) (sym clean)
           (subst (λ (s : RoundSums). AreRounds w.app (get_or c.args.clean.now task false) (declaration w.config task).extended task c.args.weights.now s) (sym c.numbered_sums-sums.ensures)
           (c.requires.rounds.each task c.requires.inside));
-      first = c.round_cost-first.ensures ∙ ap (λ (n : ℕ). round_cost n c.work_of-work.result told.first) c.round_entry-entry.ensures
+      first = c.round_cost.ensures ∙ ap (λ (n : ℕ). round_cost n c.work_of-work.result told.first) c.round_entry-entry.ensures
           ∙ ap (λ (o : Option ℕ). round_cost (round_entry w.config w.app cut false task) o told.first) c.work_of-work.ensures;
-      next = c.round_cost-next.ensures ∙ ap (λ (n : ℕ). round_cost n c.work_of-work.result told.later) c.round_entry-resumed.ensures
+      next = c.round_cost-2.ensures ∙ ap (λ (n : ℕ). round_cost n c.work_of-work.result told.later) c.round_entry-resumed.ensures
           ∙ ap (λ (o : Option ℕ). round_cost (round_entry w.config w.app cut true task) o told.later) c.work_of-work.ensures;
       raising = search;
       waits = waits;

@@ -1,9 +1,9 @@
 use Rattle.std.proofs.Common.{List, None, arith, false, get_or, inl, inr, length, refl, subst, sym, ◌≤◌, ℕ}
 use Rattle.sloth_base.specs.Named.{declaration}
-use Rattle.walk_sums.specs.declared.tasks.RoundSums.{RoundSums}
+use Rattle.walk_sums.specs.declared.sections.RoundSums.{RoundSums}
 use Rattle.run_costs.specs.Rounds.{AreRounds}
 use Rattle.bound_rules.specs.declared.bound.Summary.{Summary}
-use Rattle.walk_sums.specs.declared.kinds.Kind.TheVariants as kinds
+use Rattle.walk_sums.specs.declared.levels.Kind.TheVariants as kinds
 use Rattle.walk_sums.specs.Known.{AreSums}
 use Rattle.run_costs.specs.Tables.{no_sums, AreTurns}
 use Rattle.run_costs.proofs.Growing.{each_more, each_of}

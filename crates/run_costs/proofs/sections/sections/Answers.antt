@@ -4,6 +4,7 @@ use Rattle.walk_sums.specs.Sections.{no_sum, IsSumFor}
 use Rattle.run_windows.specs.declared.costs.SectionCosts.{SectionCosts}
 use Rattle.run_windows.specs.Costs.{no_section}
 use Rattle.run_costs.specs.CostsOf.{IsTaskSection}
+use Rattle.run_costs.specs.RunCosts.{AreSectionRow}
 use Rattle.run_costs.proofs.Growing.{each_more, each_of}
 use Rattle.run_costs.proofs.Sectioning.{sections_are}
 use Rattle.run_costs.proofs.sections.sections.Goals as goal
@@ -27,5 +28,6 @@ pub returns : goal.returns
 returns c =
     let over = subst (λ (n : ℕ). n ≤ c.loop-task.task) c.tasks-task-end.ensures.is c.loop-task-test.false in
     let most = subst (λ (n : ℕ). c.loop-task.task ≤ n) c.tasks-task-end.ensures.is c.loop-task.auto.task-end in
-    each_of SectionCosts (IsTaskSection c.args.walks.now.config c.args.walks.now.app c.args.weights.now c.args.h) c.loop-task.list.items no_section c.loop-task.task
-    (length c.args.walks.now.config.tasks) (omega (arith, over, most)) c.loop-task.invariant
+    subst (AreSectionRow c.args.walks.now.config c.args.walks.now.app c.args.weights.now c.args.h) (sym c.from_vec.ensures)
+    (each_of SectionCosts (IsTaskSection c.args.walks.now.config c.args.walks.now.app c.args.weights.now c.args.h) c.loop-task.list.items no_section c.loop-task.task
+    (length c.args.walks.now.config.tasks) (omega (arith, over, most)) c.loop-task.invariant)

@@ -1,8 +1,8 @@
-use Rattle.std.proofs.Common.{List, arith, length, subst, ℕ, ◌<◌, ◌≤◌, ap, get_or, ◌∙◌}
+use Rattle.std.proofs.Common.{List, arith, length, sym, subst, ℕ, ◌<◌, ◌≤◌, ap, get_or, ◌∙◌}
 use Rattle.walk_sums.proofs.Bodily.{facts_of}
 use Rattle.run_costs.proofs.Serving.{task_top}
 use Rattle.sloth_base.specs.Named.{body_of}
-use Rattle.run_costs.specs.Tops.{IsTop}
+use Rattle.run_costs.specs.Tops.{IsTop, AreTaskTops}
 use Rattle.run_costs.proofs.Growing.{each_more, each_of}
 use Rattle.run_costs.proofs.services.task_tops.Goals as goal
 
@@ -22,4 +22,4 @@ returns c =
     let over = subst (λ (n : ℕ). n ≤ c.loop-task.task) c.tasks-task-end.ensures.is c.loop-task-test.false in
     let most = subst (λ (n : ℕ). c.loop-task.task ≤ n) c.tasks-task-end.ensures.is c.loop-task.auto.task-end in
     let are = each_of (ℕ) (λ t top. IsTop c.args.walks.now.config c.args.walks.now.app c.args.counted (body_of c.args.walks.now.app.funcs t) top) c.loop-task.tops.items (0) c.loop-task.task (length c.args.walks.now.config.tasks) (omega (arith, over, most)) c.loop-task.invariant in
-    record { count = are.count; each = are.each }
+    subst (AreTaskTops c.args.walks.now.config c.args.walks.now.app c.args.counted) (sym c.from_vec.ensures) (record { count = are.count; each = are.each })

@@ -2,7 +2,7 @@ use Rattle.std.proofs.Common.{◌≡◌, ◌∙◌, ℕ, ◌≤◌, ◌⊎◌, i
 use Rattle.std.specs.Prelude.{◌==◌}
 use Rattle.std.proofs.lemmas.Bool.{cases_eq, eq-eqb, true≢false}
 use Rattle.run_windows.specs.Costs.{makers}
-use Rattle.run_windows.specs.declared.window.Rule.{Rule}
+use Rattle.run_windows.specs.declared.costs.Rule.{Rule}
 use Rattle.run_windows.specs.Windows.{numbers_of, rule_of, counted, activations, settings, round_makings}
 use Rattle.run_windows.specs.Cycles.{IsOpen, rest}
 use Rattle.run_windows.proofs.Endless.{by_makers, some_capped, some_share, first_mark, comes_again, made_again}

@@ -1,7 +1,7 @@
 use Rattle.std.proofs.Common.{ℕ, ◌≤◌, ◌+◌, List, drop, length, sym, subst}
 use Rattle.std.proofs.lemmas.List.{at_drop_all}
 use Rattle.run_windows.specs.declared.costs.TaskCosts.{TaskCosts}
-use Rattle.run_windows.specs.declared.window.Made.{Made}
+use Rattle.run_windows.specs.declared.costs.Made.{Made}
 use Rattle.run_windows.specs.Windows.{round_counts, IsAtMost}
 use Rattle.run_windows.specs.Cycles.{AreRatesOf, IsCurve}
 use Rattle.run_windows.proofs.LowerBounds.{Part, part_end, round_step}

@@ -1,6 +1,6 @@
 use Rattle.std.proofs.Common.{◌≡◌, ◌∙◌, List, All, get_or, sym, subst, ap, arith}
 use Rattle.std.proofs.lemmas.List.{get_or_default}
-use Rattle.lane_drawing.specs.declared.bars.Bar.{Bar}
+use Rattle.lane_drawing.specs.declared.drawing.Bar.{Bar}
 use Rattle.lane_drawing.specs.Bars.{IsBarInside}
 use Rattle.lane_drawing.specs.Strips.{Lane, empty_lane}
 use Rattle.schedule_picture.proofs.text.lane_bars.Goals as goal

@@ -4,7 +4,7 @@ use Rattle.sloth_base.specs.Named.{counter_declaration, undeclared_counter}
 use Rattle.sloth_base.specs.declared.config.AlarmDecl.{AlarmDecl}
 use Rattle.sloth_base.specs.declared.config.Config.{Config}
 use Rattle.sloth_base.specs.declared.config.CounterDecl.{CounterDecl}
-use Rattle.service_gen.specs.declared.alarms.NumberedAlarm.{NumberedAlarm}
+use Rattle.service_gen.specs.declared.tick_code.NumberedAlarm.{NumberedAlarm}
 use Rattle.service_gen.specs.Alarms.{AreAlarmsInRange, alarms_from, counter_alarms}
 use Rattle.service_gen.specs.AlarmPieces.{tick_code}
 use Rattle.service_gen.specs.Tick.{IsTickCode}

@@ -8,8 +8,8 @@ use Rattle.shares_text.specs.Tables.{AreCalls, AreAccesses}
 use Rattle.shares_text.proofs.Gathering.{ordered_are, accesses_are}
 use Rattle.shares_text.proofs.symbol_verdicts.code_verdicts.Goals as goal
 
-pub all_contexts-requires-clause-calls : goal.all_contexts-requires-clause-calls
-all_contexts-requires-clause-calls c =
+pub all_ways-requires-clause-calls : goal.all_ways-requires-clause-calls
+all_ways-requires-clause-calls c =
     let table = c.args.table.now in
     let rank = c.args.ranks.now.rank in
     let calls = c.deref.ensures.value ∙ c.in_ok-calls.ensures ∙ ap (λ (fs : List Func). gather call_at 0 fs table) c.items-funcs.ensures in

@@ -11,7 +11,7 @@ use Rattle.stage_faults.specs.Told.{Adds}
 use Rattle.stage_faults.proofs.oil_blocks.add_block.Goals as goal
 
 pub add_inner_faults-requires : goal.add_inner_faults-requires
-add_inner_faults-requires c = sym (ap (λ (k : ActionBlock). k.inner) c.new.ensures)
+add_inner_faults-requires c = sym (ap (λ (k : ActionBlock). k.inner) c.new-named.ensures)
 
 pub returns : goal.returns
 returns c =
@@ -25,5 +25,5 @@ returns c =
     (λ told.
     subst (λ (p : Place). Adds Oil (Somewhere (InsideFault objects limits p inner) inner) a b) (c.block_place-place.ensures ∙ ap (block_place place.Alarm) c.head.ensures)
     (subst (λ (k : ActionBlock). Adds Oil (Somewhere (InsideFault k.objects limits c.block_place-place.result k.inner) k.inner) a b)
-    (c.new.ensures ∙ ap (λ xs. let k : ActionBlock = record { objects = objects; inner = xs } in k) c.inner-inner.ensures) told))
+    (c.new-named.ensures ∙ ap (λ xs. let k : ActionBlock = record { objects = objects; inner = xs } in k) c.inner-inner.ensures) told))
     c.add_inner_faults.ensures

@@ -1,6 +1,6 @@
 use Rattle.std.proofs.Common.{◌≡◌, ◌∙◌, ap, subst}
 use Rattle.run_samples.specs.ServiceWords.{AreWordsRead, words_behind}
-use Rattle.run_samples.specs.declared.service_words.WordsRead.{WordsRead}
+use Rattle.run_samples.specs.declared.samples.WordsRead.{WordsRead}
 use Rattle.tool_commands.proofs.AtAllAnswers.{seen_is_answer}
 use Rattle.tool_commands.proofs.run_commands.seen_answer.Goals as goal
 

@@ -1,4 +1,4 @@
-use Rattle.std.proofs.Common.{ℕ, ◌+◌, ◌++◌, ◌∷◌, [], List, refl, sym, subst, arith, length-append}
+use Rattle.std.proofs.Common.{ℕ, ◌+◌, ◌++◌, ◌∷◌, [], List, inl, inr, refl, sym, subst, arith, length-append}
 use Rattle.trace_check.proofs.ReadEvents.{HasRead}
 use Rattle.trace_check.proofs.TraceText.{reads_more, reads_nothing}
 use Rattle.trace_check.proofs.Walking.{walked_more}
@@ -18,27 +18,37 @@ loop-line-preserved c =
     let names = c.args.names.now in
     let before = c.loop-line.invariant in
     let rest = c.loop-line.rest.now in
-    let step = c.walk_line.ensures.steps c.if-not-walk_line.false in
-    let Q : List ℕ → Type 0 = λ more. HasRead names.tasks names.funcs names.counters c.args.text.now (before.events ++ step.event ∷ []) more in
+    let event = c.in-Some.event in
+    let Q : List ℕ → Type 0 = λ more. HasRead names.tasks names.funcs names.counters c.args.text.now (before.events ++ event ∷ []) more in
     let count = before.count in
-    let long = length-append before.events (step.event ∷ []) in
+    let long = length-append before.events (event ∷ []) in
     record {
-      events = before.events ++ step.event ∷ [];
+      events = before.events ++ event ∷ [];
       reads = subst Q (sym c.behind-rest.ensures)
-          (reads_more names.tasks names.funcs names.counters c.args.text.now before.events rest step.event before.reads step.first);
+          (reads_more names.tasks names.funcs names.counters c.args.text.now before.events rest event before.reads c.in-Some.ensures.some);
       count = omega (arith, count, long);
-      walks = λ config app h. walked_more config app before.events c.loop-line.walk (before.walks config app h) step.event c.walk_line.new.walk step.step;
+      walks = λ config app h. walked_more config app before.events c.loop-line.walk (before.walks config app h) event c.step.new.self c.in-Ok.ensures.walks;
     }
 
-pub returns-then-not-walk_line : goal.returns-then-not-walk_line
-returns-then-not-walk_line c config app named walked stray =
+pub returns-in_default : goal.returns-in_default
+returns-in_default c config app named walked stray =
     let before = c.loop-line.invariant in
     let count = before.count in
     let less = c.loop-line-test.true in
     absurd
     (leads_on config app c.args.names.now named c.args.text.now c.requires.tasks c.requires.funcs c.requires.counters c.requires.apart (c.args.lines + 1) stray
     before.events c.loop-line.rest.now before.reads c.loop-line.walk (before.walks config app walked) (omega (arith, count, less))
-    (c.walk_line.ensures.ends c.if-not-walk_line.true))
+    (inl c.in_default.ensures.none))
+
+pub returns-in-Err : goal.returns-in-Err
+returns-in-Err c config app named walked stray =
+    let before = c.loop-line.invariant in
+    let count = before.count in
+    let less = c.loop-line-test.true in
+    absurd
+    (leads_on config app c.args.names.now named c.args.text.now c.requires.tasks c.requires.funcs c.requires.counters c.requires.apart (c.args.lines + 1) stray
+    before.events c.loop-line.rest.now before.reads c.loop-line.walk (before.walks config app walked) (omega (arith, count, less))
+    (inr (record { event = c.in-Some.event; first = c.in-Some.ensures.some; ends = c.in-Err.ensures.stops })))
 
 pub returns : goal.returns
 returns c config app named walked stray =

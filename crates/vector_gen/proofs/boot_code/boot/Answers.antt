@@ -13,7 +13,7 @@ returns-clause-effect c =
     let counters = length c.args.config.now.counters in
     let idle = c.args.map.now.idle in
     let e : c.from_vec.result ≡ boot_code tasks counters levels top idle =
-    rw (c.from_vec.ensures, c.in_ok-finish.ensures.added, c.in_ok-start_counters.ensures.added, c.counter_level.ensures, c.in_ok-start_all.ensures.added, c.in_ok-begin.ensures, c.new-code.ensures.items, c.items-2.ensures, c.items.ensures)
+    rw (c.from_vec.ensures, c.in_ok-finish.ensures.added, c.in_ok-start_counters.ensures.added, c.counter_level.ensures, c.in_ok-start_all.ensures.added, c.in_ok-put.ensures, c.lui.ensures, c.addi.ensures, c.new-code.ensures.items, c.items-2.ensures, c.items.ensures)
     (ap (λ (l : List InstrKind). register_code ++ l) (append_assoc (lines_code 0 tasks levels) (counters_code counters first_counter_line (top + 1)) (finishing_code idle)))
     in
     let level = c.counter_level.ensures in

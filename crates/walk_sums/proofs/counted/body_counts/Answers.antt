@@ -1,7 +1,7 @@
 use Rattle.std.proofs.Common.{◌≡◌, ◌∙◌, ℕ, List, map, ap, ap₂}
 use Rattle.std.proofs.lemmas.List.{take_all}
 use Rattle.sloth_base.specs.declared.app.Item.{Item}
-use Rattle.bound_rules.specs.declared.weights.BodyWeights.{BodyWeights}
+use Rattle.bound_rules.specs.declared.bound.BodyWeights.{BodyWeights}
 use Rattle.walk_sums.specs.Counted.{one_if, is_going_counted, is_ending_counted}
 use Rattle.walk_sums.proofs.counted.body_counts.Goals as goal
 

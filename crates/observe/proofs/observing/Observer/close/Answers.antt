@@ -14,5 +14,5 @@ returns-clause-closed c =
       event = Some (stamp c.args.first.now.count c.args.last.now.count what);
       after = within;
     } in
-    ap (λ (within : List Arrival). closed within c.stretch_event.result) (c.split_at.ensures.front ∙ ap (λ n. take n old.inside.now) c.saturating_sub.ensures)
-    ∙ ap (λ (what : Event). closed (arrivals_within old.inside.now old.coming.now) what) c.stretch_event.ensures
+    ap (λ (within : List Arrival). closed within c.stretch_event-event.result) (c.split_at.ensures.front ∙ ap (λ n. take n old.inside.now) c.saturating_sub.ensures)
+    ∙ ap (λ (what : Event). closed (arrivals_within old.inside.now old.coming.now) what) c.stretch_event-event.ensures

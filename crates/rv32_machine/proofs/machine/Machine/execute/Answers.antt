@@ -3,7 +3,7 @@ use Rattle.rv32_instr.specs.Effect.{effect}
 use Rattle.rv32_instr.specs.declared.InstrKind.{InstrKind}
 use Rattle.rv32_instr.specs.Table.{Decode}
 use Rattle.rv32_instr.specs.Execute.{Going, Stopped, word_at_pc}
-use Rattle.rv32_instr.specs.declared.effect.Stop.TheVariants as stop
+use Rattle.rv32_instr.specs.declared.encoding.Stop.TheVariants as stop
 use Rattle.rv32_machine.specs.State.{state}
 use Rattle.rv32_machine.proofs.Fetching.{step_fetch, step_illegal, executed, touched_executed}
 use Rattle.rv32_machine.proofs.machine.Machine.execute.Goals as goal

@@ -1,7 +1,5 @@
-use Rattle.std.proofs.Common.{sym, subst}
-use Rattle.walk_sums.specs.Graph.{AreInside}
 use Rattle.walk_sums.proofs.Filling.{paths_inside}
 use Rattle.walk_sums.proofs.levels.Caller.ending_trails.Goals as goal
 
 pub longest_sizes-requires-clause-inside : goal.longest_sizes-requires-clause-inside
-longest_sizes-requires-clause-inside c = subst AreInside (sym c.items-3.ensures) (paths_inside c.args.self.now c.args.paths.now c.requires.paths)
+longest_sizes-requires-clause-inside c = paths_inside c.args.self.now c.args.paths.now c.requires.paths

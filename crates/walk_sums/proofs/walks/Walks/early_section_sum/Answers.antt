@@ -1,6 +1,6 @@
 use Rattle.std.proofs.Common.{◌∙◌, ℕ, List, Some, ap, sym, subst}
 use Rattle.bound_rules.specs.declared.bound.Summary.{Summary}
-use Rattle.walk_sums.specs.declared.kinds.Kind.TheVariants as kinds
+use Rattle.walk_sums.specs.declared.levels.Kind.TheVariants as kinds
 use Rattle.walk_sums.specs.Early.{IsToldEarly}
 use Rattle.walk_sums.specs.Known.{AreSums}
 use Rattle.walk_sums.specs.Told.{told_section}

@@ -2,7 +2,7 @@ use Rattle.std.proofs.Common.{◌≡◌, ◌∙◌, Bool, true, false, cond, ref
 use Rattle.bound_rules.specs.declared.bound.Summary.{Summary}
 use Rattle.walk_sums.specs.declared.sections.Sum.{Sum}
 use Rattle.walk_sums.specs.declared.sections.Sum.TheVariants as sum
-use Rattle.walk_sums.specs.declared.tasks.RoundSums.{RoundSums}
+use Rattle.walk_sums.specs.declared.sections.RoundSums.{RoundSums}
 use Rattle.walk_sums.specs.Told.{AreToldRounds, told}
 use Rattle.walk_sums.proofs.Bodily.{facts_of}
 use Rattle.walk_sums.proofs.Telling.{rounds_told}

@@ -1,6 +1,6 @@
 use Rattle.std.proofs.Common.{◌≡◌, ◌∙◌, Bool, ℕ, List, false, None, length, rules, ap, subst}
-use Rattle.bound_rules.specs.declared.weights.BodyWeights.{BodyWeights}
-use Rattle.walk_sums.specs.declared.kinds.Kind.TheVariants as kinds
+use Rattle.bound_rules.specs.declared.bound.BodyWeights.{BodyWeights}
+use Rattle.walk_sums.specs.declared.levels.Kind.TheVariants as kinds
 use Rattle.walk_sums.specs.declared.counted.Counted.TheVariants as counts
 use Rattle.walk_sums.specs.Counted.{counted_weights}
 use Rattle.walk_sums.specs.Known.{AreSums}

@@ -1,6 +1,6 @@
 use Rattle.std.proofs.Common.{ℕ, ◌+◌, ◌<◌, List, get_or, length, set, take, None, refl, sym, subst, arith}
 use Rattle.bound_rules.specs.declared.bound.Summary.{Summary}
-use Rattle.walk_sums.specs.declared.kinds.Kind.TheVariants as kinds
+use Rattle.walk_sums.specs.declared.levels.Kind.TheVariants as kinds
 use Rattle.walk_sums.specs.Known.{IsBefore, IsSummary, caller_code}
 use Rattle.walk_sums.proofs.OrderSummaries.{AreSummariesOf}
 use Rattle.walk_sums.proofs.Summaries.{next_known, next_inside, called_summed, one_summed}

@@ -1,8 +1,0 @@
-use Rattle.std.proofs.Common.{◌≡◌, ◌++◌, map, drop}
-use Rattle.text_pieces.specs.Names.{referent}
-use Rattle.debug_ways.specs.Around.{sided}
-use Rattle.debug_ways.proofs.events.sided.Given as goal
-
-abbrev pub invariant-loop-line : goal.invariant-loop-line
-invariant-loop-line l =
-    map referent l.kept.items ++ sided l.before l.count (map referent (drop l.line-index l.lines)) ≡ sided l.before l.count (map referent l.lines)

@@ -1,8 +1,0 @@
-use Rattle.image_file.proofs.Standing.{two_stands}
-use Rattle.std.proofs.Common.{rules}
-use Rattle.image_file.proofs.header.u16_at.Goals as goal
-
--- src/read.rt:159:1
-pub returns : goal.returns
-returns c =
-    record { stands = two_stands c.args.bytes.now c.args.at c.from_le_bytes.result c.requires (search rules) c.from_le_bytes.ensures }

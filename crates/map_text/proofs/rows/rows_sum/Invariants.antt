@@ -1,6 +1,0 @@
-use Rattle.std.proofs.Common.{◌≡◌, ◌≤◌, ◌+◌, ◌*◌, drop}
-use Rattle.map_text.specs.Rows.{rows_sum}
-use Rattle.map_text.proofs.rows.rows_sum.Given as goal
-
-abbrev pub invariant-loop-i : goal.invariant-loop-i
-invariant-loop-i l = (l.sum + rows_sum (drop l.i l.rows) ≡ rows_sum l.rows) × (l.sum ≤ l.i * 4294967296)

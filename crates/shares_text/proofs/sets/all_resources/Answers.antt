@@ -1,5 +1,0 @@
-use Rattle.shares_text.proofs.AllMembers.{all_members}
-use Rattle.shares_text.proofs.sets.all_resources.Goals as goal
-
-pub returns : goal.returns
-returns c = all_members

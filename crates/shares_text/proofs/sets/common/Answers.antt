@@ -1,5 +1,0 @@
-use Rattle.shares_text.proofs.Joining.{has_and}
-use Rattle.shares_text.proofs.sets.common.Goals as goal
-
-pub returns : goal.returns
-returns c = has_and c.args.one c.args.other

@@ -1,6 +1,0 @@
-use Rattle.std.proofs.Common.{sym, ◌∙◌}
-use Rattle.shares_text.proofs.verdict.uses_verdict.Goals as goal
-
-pub shared_verdict-requires-clause-two : goal.shared_verdict-requires-clause-two
-shared_verdict-requires-clause-two c =
-    record { one = c.first_user-first.result; some = c.first_user-first.ensures; other = sym c.is_of_one.ensures ∙ c.if-is_of_one.false }

@@ -1,5 +1,0 @@
-use Rattle.shares_text.proofs.Kept.{keeps_verdicts}
-use Rattle.shares_text.proofs.verdict_laws.runs_keep_verdicts.Goals as goal
-
-pub returns : goal.returns
-returns c = keeps_verdicts

@@ -1,5 +1,0 @@
-use Rattle.sim_laws.proofs.Housed.{blocks_are_in}
-use Rattle.sim_laws.proofs.zones.blocks_are_in.Goals as goal
-
-pub returns : goal.returns
-returns c = blocks_are_in

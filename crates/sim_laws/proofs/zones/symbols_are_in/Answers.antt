@@ -1,5 +1,0 @@
-use Rattle.sim_laws.proofs.Data.{symbols_are_in}
-use Rattle.sim_laws.proofs.zones.symbols_are_in.Goals as goal
-
-pub returns : goal.returns
-returns c = symbols_are_in

@@ -1,5 +1,0 @@
-use Rattle.sim_routines.proofs.event_services.clear_event_goes_on.Goals as goal
-use Rattle.sim_routines.proofs.Cleared.{clears}
-
-pub returns : goal.returns
-returns c = λ b state s t own object touched end fits may effect. clears b state s t own object touched end fits may effect

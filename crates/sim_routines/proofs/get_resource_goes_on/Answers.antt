@@ -1,5 +1,0 @@
-use Rattle.sim_routines.proofs.get_resource_goes_on.Goals as goal
-use Rattle.sim_routines.proofs.Holding.{takes}
-
-pub returns : goal.returns
-returns c = λ b state s t own object level touched end fits on may effect. takes b state s t own object level touched end fits on may effect

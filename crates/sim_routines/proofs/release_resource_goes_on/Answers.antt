@@ -1,5 +1,0 @@
-use Rattle.sim_routines.proofs.release_resource_goes_on.Goals as goal
-use Rattle.sim_routines.proofs.Holding.{releases}
-
-pub returns : goal.returns
-returns c = λ b state s t own object touched end fits may effect. releases b state s t own object touched end fits may effect

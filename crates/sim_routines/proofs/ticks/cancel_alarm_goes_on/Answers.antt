@@ -1,5 +1,0 @@
-use Rattle.sim_routines.proofs.ticks.cancel_alarm_goes_on.Goals as goal
-use Rattle.sim_routines.proofs.AlarmServing.{cancels}
-
-pub returns : goal.returns
-returns c = λ b state s t own alarm touched end fits may effect. cancels b state s t own alarm touched end fits may effect

@@ -1,0 +1,5 @@
+use Rattle.sim_routines.proofs.ticks.set_abs_alarm_continues.Goals as goal
+use Rattle.sim_routines.proofs.AlarmServing.{sets_absolute}
+
+pub returns : goal.returns
+returns c = λ b state s t own alarm touched end fits may effect. sets_absolute b state s t own alarm touched end fits may effect

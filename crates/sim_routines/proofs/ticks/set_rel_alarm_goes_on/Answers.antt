@@ -1,5 +1,0 @@
-use Rattle.sim_routines.proofs.ticks.set_rel_alarm_goes_on.Goals as goal
-use Rattle.sim_routines.proofs.AlarmServing.{sets_relative}
-
-pub returns : goal.returns
-returns c = λ b state s t own alarm touched end fits may effect. sets_relative b state s t own alarm touched end fits may effect

@@ -1,6 +1,0 @@
-use Rattle.std.proofs.Common.{◌≡◌, ◌++◌, drop}
-use Rattle.symbol_image.specs.Symbols.{saved_words}
-use Rattle.symbol_image.proofs.word_symbols.push_levels.Given as goal
-
-abbrev pub invariant-loop-number : goal.invariant-loop-number
-invariant-loop-number l = l.symbols.items ++ saved_words l.number (drop l.number l.resources) ≡ l.fn.symbols.items ++ saved_words 0 l.resources
